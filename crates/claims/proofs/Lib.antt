@@ -1,0 +1,4 @@
+pub mod Books
+pub mod Ranges
+pub mod Ranks
+pub mod Shares

@@ -1,0 +1,7 @@
+pub mod Limits
+pub mod Causes
+pub mod Book
+pub mod Places
+pub mod Units
+pub mod Rules
+pub mod Held
