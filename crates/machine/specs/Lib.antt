@@ -1,0 +1,5 @@
+pub mod Limits
+pub mod Refusals
+pub mod Slots
+pub mod Machine
+pub mod Entries
