@@ -1,0 +1,4 @@
+pub mod Drafts
+pub mod View
+pub mod Calls
+pub mod Steps
