@@ -1,0 +1,3 @@
+mod Every
+mod Shelving
+mod Pools

@@ -1,0 +1,240 @@
+-- What holds of every kind of goods on a shelf, and of those whose demands say which unit goes out.
+use mathlib.Core.Path.{_≡_, refl, sym, ap, subst, _∙_}
+use mathlib.Core.Bool.{Bool, true, false, cond, _&&_}
+use mathlib.Core.List.{[]}
+use Prim.Native.Nat.{ℕ, suc, _+_, _<_, _≤_}
+use native.Mathlib.Omega.{arith}
+use native.Mathlib.Numerals.{add-one}
+use lib.Dec.{eqb, leb, ltb}
+use lib.ListN.{length}
+use Rattle.std.specs.Options.{isSome}
+use Rattle.std.specs.Orderings.{Decides}
+use Rattle.std.specs.shelf.Maps.{nth}
+use Rattle.std.specs.declared.option.Option.{Option}
+use Rattle.std.specs.declared.option.Option.the-variants.{Some, None}
+use Rattle.std.specs.declared.result.Result.{Result}
+use Rattle.std.specs.declared.result.Result.the-variants.{Ok, Err}
+use Rattle.std.proofs.shelf.Tests.{and-parts, and-from, eqb-true, eq-eqb, ne-eqb, leb-true, le-leb, cond-true, cond-false}
+use Rattle.claims.specs.declared.Cause.{Cause}
+use Rattle.claims.specs.declared.Cause.the-variants.{Unreadable, KeyTaken, NoSuchKey, AlreadyOut, TooManyClaims}
+use Rattle.claims.specs.declared.Claim.{Claim}
+use Rattle.claims.specs.declared.ClaimKey.{ClaimKey}
+use Rattle.claims.specs.declared.ClaimState.{ClaimState}
+use Rattle.claims.specs.declared.ClaimState.the-variants.{Waiting, Out}
+use Rattle.claims.specs.declared.Demand.{Demand}
+use Rattle.claims.specs.declared.Fault.{Fault}
+use Rattle.claims.specs.declared.ItemNumber.{ItemNumber}
+use Rattle.claims.specs.Book.{Book, key-of, find, insert, without, sent, out, Rising, every}
+use Rattle.claims.specs.Limits.{most-claims, last-shelf, most-units, last-unit}
+use Rattle.claims.specs.Rules.{Rules, Laws, refusal, answered, added, lifted, shut-out, readable}
+use Rattle.claims.proofs.Books.{length-insert, length-without, length-out, every-insert, every-without, without-absent}
+use Rattle.resource.specs.Calls.{Placed, Lifted, Drawn}
+use Rattle.resource.specs.Draws.{drawn}
+use Rattle.resource.proofs.Refusals.{welcomed, least-is, goes-out}
+use Rattle.goods.specs.Shelves.{Kind, on-shelf, waits-or-has, shelved, barred, found, found-waiting}
+use Rattle.goods.proofs.Every.{and-true, true-and, every-find, every-nth, every-shows, every-sent, every-out}
+
+-- the refusal of a claim that is barred, or for which there may not be enough
+abbrev pub or-short : Option Cause → Bool → Cause → Option Cause
+or-short (Some x) e short = Some x
+or-short None e short = cond e None (Some short)
+
+-- a claim that has come into a book
+pub record Entered (s : ℕ) (k : Kind) (b b′ : Book) (c : Claim) : Type 0 where
+  pub inserted : b′ ≡ insert c b
+  pub carried : shelved s k .carries b′ ≡ true
+  pub all-read : every (readable (shelved s k)) b′ ≡ true
+  pub placed : Placed c (shelved s k) b (Ok tt) (shelved s k) b′
+
+module _ (s : ℕ) (k : Kind) where
+  pub carries-says : (b : Book) → shelved s k .carries b ≡ true → (length b ≤ most-claims) × (k .enough b ≡ true)
+  carries-says b e = let p = and-parts (leb (length b) most-claims) (k .enough b) e in (leb-true (length b) most-claims (p .0), p .1)
+
+  pub carries-shows : (b : Book) → length b ≤ most-claims → k .enough b ≡ true → shelved s k .carries b ≡ true
+  carries-shows b l e = and-from (leb (length b) most-claims) (k .enough b) (le-leb (length b) most-claims l) e
+
+  -- a refusal looks at the bars first, and then at the goods
+  pub refusal-is : (b : Book) (c : Claim) → refusal (shelved s k) b c ≡ or-short (barred (shelved s k .reads (c .demand)) b c) (k .enough (insert c b)) (k .short)
+  refusal-is b c =
+      ap (λ (l : Bool). ways (readable (shelved s k) c) (isSome (find b (key-of c))) l) (ap (λ (n : ℕ). leb n most-claims) (length-insert c b ∙ add-one (length b)))
+      ∙ same (readable (shelved s k) c) (isSome (find b (key-of c))) (ltb (length b) most-claims)
+    where
+      ways : Bool → Bool → Bool → Option Cause
+      ways q f l = cond q (cond f (Some KeyTaken) (cond (l && k .enough (insert c b)) None (Some (cond l (k .short) TooManyClaims)))) (Some Unreadable)
+
+      same : (q f l : Bool) → ways q f l ≡ or-short (cond q (cond f (Some KeyTaken) (cond l None (Some TooManyClaims))) (Some Unreadable)) (k .enough (insert c b)) (k .short)
+      same true true l = refl
+      same true false true = refl
+      same true false false = refl
+      same false f l = refl
+
+  -- what a claim has passed that is not barred
+  unbarred : (b : Book) (c : Claim) → answered (c .key) (barred (shelved s k .reads (c .demand)) b c) ≡ Ok tt → shut-out b c ≡ None
+  unbarred b c e = go (readable (shelved s k) c) (shut-out b c) refl e
+    where
+      go : (q : Bool) (o : Option Cause) → shut-out b c ≡ o → answered (c .key) (cond q o (Some Unreadable)) ≡ Ok tt → shut-out b c ≡ None
+      go true None r f = r
+      go true (Some x) r f = absurd (let z : _≡_ {A = ℕ} 0 1 = cc in omega arith)
+      go false o r f = absurd (let z : _≡_ {A = ℕ} 0 1 = cc in omega arith)
+
+  passed : (b : Book) (c : Claim) → answered (c .key) (barred (shelved s k .reads (c .demand)) b c) ≡ Ok tt → refusal (shelved s k) b c ≡ or-short None (k .enough (insert c b)) (k .short)
+  passed b c e = go (barred (shelved s k .reads (c .demand)) b c) (refusal-is b c) e
+    where
+      go : (o : Option Cause) → refusal (shelved s k) b c ≡ or-short o (k .enough (insert c b)) (k .short) → answered (c .key) o ≡ Ok tt → refusal (shelved s k) b c ≡ or-short None (k .enough (insert c b)) (k .short)
+      go None r g = r
+      go (Some x) r g = absurd (let z : _≡_ {A = ℕ} 0 1 = cc in omega arith)
+
+  -- a claim that is turned away at the bars,
+  pub turned-away : (b : Book) (c : Claim) (f : Fault) → answered (c .key) (barred (shelved s k .reads (c .demand)) b c) ≡ Err f → Placed c (shelved s k) b (Err f) (shelved s k) b
+  turned-away b c f e = go (barred (shelved s k .reads (c .demand)) b c) (refusal-is b c) e
+    where
+      go : (o : Option Cause) → refusal (shelved s k) b c ≡ or-short o (k .enough (insert c b)) (k .short) → answered (c .key) o ≡ Err f → Placed c (shelved s k) b (Err f) (shelved s k) b
+      go None r g = absurd (let z : _≡_ {A = ℕ} 0 1 = cc in omega arith)
+      go (Some x) r g = record { same = refl; value = sym g ∙ ap (answered (c .key)) (sym r); after = ap (added c b) (sym r) }
+
+  -- for want of goods,
+  pub falls-short : (b : Book) (c : Claim) → answered (c .key) (barred (shelved s k .reads (c .demand)) b c) ≡ Ok tt → k .enough (insert c b) ≡ false →
+      Placed c (shelved s k) b (Err (record { cause = k .short; key = c .key })) (shelved s k) b
+  falls-short b c e n = let r = passed b c e ∙ cond-false (k .enough (insert c b)) None (Some (k .short)) n in
+      record { same = refl; value = ap (answered (c .key)) (sym r); after = ap (added c b) (sym r) }
+
+  -- or comes in
+  pub comes-in : (b b′ : Book) (c : Claim) → every (readable (shelved s k)) b ≡ true → answered (c .key) (barred (shelved s k .reads (c .demand)) b c) ≡ Ok tt → k .enough (insert c b) ≡ true →
+      b′ ≡ added c b (shut-out b c) → Entered s k b b′ c
+  comes-in b b′ c all e y after =
+      let r = passed b c e ∙ cond-true (k .enough (insert c b)) None (Some (k .short)) y in
+      let w = welcomed (shelved s k) b c r in
+      let in′ : b′ ≡ insert c b = after ∙ ap (added c b) (unbarred b c e) in
+      record {
+        inserted = in′;
+        carried = ap (shelved s k .carries) in′ ∙ w .2;
+        all-read = ap (every (readable (shelved s k))) in′ ∙ every-insert (readable (shelved s k)) c b (w .0) all;
+        placed = record { same = refl; value = ap (answered (c .key)) (sym r); after = in′ ∙ ap (added c b) (sym r) };
+      }
+
+  -- the laws of a kind, from those of its goods
+  pub shelved-laws :
+      k .enough [] ≡ true →
+      ((b : Book) (j : ℕ) → Rising b → k .enough b ≡ true → k .enough (without j b) ≡ true) →
+      ((b : Book) (j : ℕ) (c : Claim) → Rising b → k .enough b ≡ true → find b j ≡ Some c → c .state ≡ Waiting → (u : ℕ) × (k .enough (out j u b) ≡ true)) →
+      ((b : Book) (j : ℕ) (c : Claim) (i : ItemNumber) → Rising b → k .enough b ≡ true → find b j ≡ Some c → c .state ≡ Out i → i .0 ≤ last-unit) →
+      ((d : Demand) → k .formed d ≡ true → (1 ≤ k .amount d) × (k .amount d ≤ most-units)) →
+      Laws (shelved s k)
+  shelved-laws none fewer goes small amounts = record {
+    empty = carries-shows [] (omega arith) none;
+    fewer = λ b j h e. let p = carries-says b e in carries-shows (without j b) (omega (arith, length-without j b, p .0)) (fewer b j h (p .1));
+    goes = λ b j c h e f w.
+        let p = carries-says b e in
+        let u = goes b j c h (p .1) f w in
+        (u .0, carries-shows (out j (u .0) b) (omega (arith, length-out j (u .0) b, p .0)) (u .1));
+    few = λ b h e. carries-says b e .0;
+    small = λ b j c i h e. small b j c i h (carries-says b e .1);
+    shelves = λ d e.
+        let p = and-parts (on-shelf s d) (k .formed d) e .0 in
+        let q = and-parts (leb 1 s && leb s last-shelf) (eqb (d .shelf) s) p in
+        let r = and-parts (leb 1 s) (leb s last-shelf) (q .0) in
+        let z = eqb-true (d .shelf) s (q .1) in
+        (omega (arith, leb-true 1 s (r .0)), omega (arith, leb-true s last-shelf (r .1)));
+    amounts = λ d e.
+        let p = amounts d (and-parts (on-shelf s d) (k .formed d) e .1) in
+        let z = cond-true (on-shelf s d && k .formed d) (k .amount d) 0 e in
+        (omega (arith, p .0), omega (arith, p .1));
+    nothing = λ d e. cond-false (on-shelf s d && k .formed d) (k .amount d) 0 e;
+  }
+
+-- what a key shows where a claim waits under it, or lies
+pub waits-there : (k : ClaimKey) (o : Option Claim) (c : Claim) → found-waiting k o ≡ Ok c → (o ≡ Some c) × (c .state ≡ Waiting)
+waits-there k None c e = absurd (let z : _≡_ {A = ℕ} 0 1 = cc in omega arith)
+waits-there k (Some x) c e = go (x .state) refl e
+  where
+    go : (q : ClaimState) → x .state ≡ q → _≡_ {A = Result Claim Fault} (elim q as (λ _. Result Claim Fault) [ Waiting ↦ Ok x | Out i ↦ Err (record { cause = AlreadyOut; key = k }) ]) (Ok c) → (Some x ≡ Some c) × (c .state ≡ Waiting)
+    go Waiting w f = let same : x ≡ c = cc in (ap Some same, ap (λ (y : Claim). y .state) (sym same) ∙ w)
+    go (Out i) w f = absurd (let z : _≡_ {A = ℕ} 0 1 = cc in omega arith)
+
+pub lies-there : (k : ClaimKey) (o : Option Claim) (c : Claim) → found k o ≡ Ok c → o ≡ Some c
+lies-there k None c e = cc
+lies-there k (Some x) c e = cc
+
+-- nothing is lifted where there is no claim
+pub stays : (k : ClaimKey) (r : Rules) (b : Book) (f : Fault) → found k (find b (k .0)) ≡ Err f → Lifted k r b (Err f) r b
+stays k r b f e = go (find b (k .0)) refl e
+  where
+    go : (o : Option Claim) → find b (k .0) ≡ o → found k o ≡ Err f → Lifted k r b (Err f) r b
+    go None n g = let same : record { cause = NoSuchKey; key = k } ≡ f = cc in record { same = refl; value = ap Err (sym same) ∙ ap (lifted k) (sym n); after = sym (without-absent (k .0) b n) }
+    go (Some c) n g = absurd (let z : _≡_ {A = ℕ} 0 1 = cc in omega arith)
+
+-- a claim that is lifted leaves the rest carried
+pub leaves : (r : Rules) → Laws r → (b b′ : Book) (j : ℕ) → Rising b → r .carries b ≡ true → every (readable r) b ≡ true → b′ ≡ without j b → (r .carries b′ ≡ true) × (every (readable r) b′ ≡ true)
+leaves r laws b b′ j h e all after = (ap (r .carries) after ∙ laws .fewer b j h e, ap (every (readable r)) after ∙ every-without (readable r) j b all)
+
+-- whether a claim has its unit, by what its state says
+unit-says : (u : ℕ) (q : ClaimState) (i : ItemNumber) → waits-or-has u q ≡ true → q ≡ Out i → i .0 ≡ u
+unit-says u q i e w = eqb-true (i .0) u (ap (waits-or-has u) (sym w) ∙ e)
+
+unit-shows : (u : ℕ) (q : ClaimState) → ((i : ItemNumber) → q ≡ Out i → i .0 ≡ u) → waits-or-has u q ≡ true
+unit-shows u Waiting h = refl
+unit-shows u (Out i) h = eq-eqb (i .0) u (h i refl)
+
+-- what goods are to show whose demands say which unit goes out
+pub record Own (own : Book → Bool) (unit : Demand → ℕ) : Type 0 where
+  pub none : own [] ≡ true
+  pub fewer : (j : ℕ) (b : Book) → own b ≡ true → own (without j b) ≡ true
+  pub alike : (j u : ℕ) (b : Book) → own (out j u b) ≡ own b
+  pub small : (j : ℕ) (c : Claim) (b : Book) → own b ≡ true → find b j ≡ Some c → unit (c .demand) ≤ last-unit
+
+module _ (s : ℕ) (formed : Demand → Bool) (amount : Demand → ℕ) (own : Book → Bool) (unit : Demand → ℕ) (short : Cause) (o : Own own unit) where
+  abbrev proper : Claim → Bool
+  proper c = waits-or-has (unit (c .demand)) (c .state)
+
+  abbrev fixed : Kind
+  fixed = record { formed = formed; amount = amount; enough = λ b. own b && every proper b; short = short }
+
+  enough-out : (j u : ℕ) (c : Claim) (b : Book) → fixed .enough b ≡ true → find b j ≡ Some c → fixed .enough (out j u b) ≡ eqb u (unit (c .demand))
+  enough-out j u c b e f =
+      let p = and-parts (own b) (every proper b) e in
+      true-and (own (out j u b)) (every proper (out j u b)) (o .alike j u b ∙ p .0) ∙ every-sent proper j u c b (p .1) f
+
+  carries-out : (j u : ℕ) (c : Claim) (b : Book) → shelved s fixed .carries b ≡ true → find b j ≡ Some c → shelved s fixed .carries (out j u b) ≡ eqb u (unit (c .demand))
+  carries-out j u c b e f =
+      let p = carries-says s fixed b e in
+      true-and (leb (length (out j u b)) most-claims) (fixed .enough (out j u b)) (le-leb (length (out j u b)) most-claims (omega (arith, length-out j u b, p .0))) ∙ enough-out j u c b (p .1) f
+
+  drawn-is : (j : ℕ) (c : Claim) (b : Book) → shelved s fixed .carries b ≡ true → find b j ≡ Some c → drawn (shelved s fixed) b j ≡ unit (c .demand)
+  drawn-is j c b e f =
+      let v = unit (c .demand) in
+      let top = o .small j c b (and-parts (own b) (every proper b) (carries-says s fixed b e .1) .0) f in
+      least-is (λ u. shelved s fixed .carries (out j u b)) 0 (suc last-unit) v (omega arith) (omega arith)
+      (carries-out j v c b e f ∙ eq-eqb v v refl)
+      (λ u l h. carries-out j u c b e f ∙ ne-eqb u v (λ g. omega arith))
+
+  -- a claim that waits goes out with the unit of its demand
+  pub goes-out-as : (k : ClaimKey) (b b′ : Book) (c : Claim) → shelved s fixed .carries b ≡ true → every (readable (shelved s fixed)) b ≡ true → found-waiting k (find b (k .0)) ≡ Ok c → b′ ≡ out (k .0) (unit (c .demand)) b →
+      (shelved s fixed .carries b′ ≡ true) × (every (readable (shelved s fixed)) b′ ≡ true) × Drawn k (shelved s fixed) b (Ok (record { 0 = unit (c .demand) })) (shelved s fixed) b′
+  goes-out-as k b b′ c e all f after =
+      let v = unit (c .demand) in
+      let w = waits-there k (find b (k .0)) c f in (
+        ap (shelved s fixed .carries) after ∙ carries-out (k .0) v c b e (w .0) ∙ eq-eqb v v refl,
+        ap (every (readable (shelved s fixed))) after ∙ every-out (readable (shelved s fixed)) (k .0) v b (λ x. refl) ∙ all,
+        goes-out k (shelved s fixed) b b′ v c (w .0) (w .1) (drawn-is (k .0) c b e (w .0)) after,
+      )
+
+  -- a book is carried exactly if it has few claims, the goods suffice, and each claim that is out has its unit
+  pub carries-exactly : (b : Book) → Decides (shelved s fixed .carries b) ((length b ≤ most-claims) × (own b ≡ true) × ((i : ℕ) (c : Claim) (u : ItemNumber) → nth b i ≡ Some c → c .state ≡ Out u → u .0 ≡ unit (c .demand)))
+  carries-exactly b = (
+    (λ e.
+        let p = carries-says s fixed b e in
+        let q = and-parts (own b) (every proper b) (p .1) in
+        (p .0, q .0, λ i c u f w. unit-says (unit (c .demand)) (c .state) u (every-nth proper i c b (q .1) f) w)),
+    (λ h. carries-shows s fixed b (h .0) (and-from (own b) (every proper b) (h .1) (every-shows proper b (λ i c f. unit-shows (unit (c .demand)) (c .state) (λ u w. h .2 i c u f w))))),
+  )
+
+  pub fixed-laws : ((d : Demand) → formed d ≡ true → (1 ≤ amount d) × (amount d ≤ most-units)) → Laws (shelved s fixed)
+  fixed-laws amounts = shelved-laws s fixed
+      (and-from (own []) true (o .none) refl)
+      (λ b j h e. let p = and-parts (own b) (every proper b) e in and-from (own (without j b)) (every proper (without j b)) (o .fewer j b (p .0)) (every-without proper j b (p .1)))
+      (λ b j c h e f w. (unit (c .demand), enough-out j (unit (c .demand)) c b e f ∙ eq-eqb (unit (c .demand)) (unit (c .demand)) refl))
+      (λ b j c i h e f w.
+      let p = and-parts (own b) (every proper b) e in
+      let q : eqb (i .0) (unit (c .demand)) ≡ true = ap (waits-or-has (unit (c .demand))) (sym w) ∙ every-find proper j c b (p .1) f in
+      omega (arith, eqb-true (i .0) (unit (c .demand)) q, o .small j c b (p .0) f))
+      amounts
