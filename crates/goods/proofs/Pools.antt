@@ -23,7 +23,8 @@ use Rattle.claims.specs.Rules.{Laws}
 use Rattle.goods.specs.Pooled.{quantities, unnumbered, pool-kind, pool, Escrowed, Escrow-rule}
 use Rattle.goods.specs.Shelves.{one-number}
 use Rattle.goods.proofs.Every.{every-with}
-use Rattle.goods.proofs.Shelving.{Own, fixed-laws, carries-exactly, carries-says}
+use Rattle.goods.proofs.Fixed.{Fixed, carries-exactly}
+use Rattle.goods.proofs.Shelving.{carries-says, one-number-says}
 
 pub quantities-insert : (x : Claim) (b : Book) → quantities (insert x b) ≡ x .demand .first + quantities b
 quantities-insert x [] = refl
@@ -31,7 +32,7 @@ quantities-insert x (c ∷ b) =
     let ih = quantities-insert x b in
     cond-both (ltb (key-of x) (key-of c)) (x ∷ c ∷ b) (c ∷ insert x b) (λ r. quantities r ≡ x .demand .first + quantities (c ∷ b)) (λ e. refl) (λ e. omega arith)
 
-quantities-without : (k : ℕ) (b : Book) → quantities (without k b) ≤ quantities b
+pub quantities-without : (k : ℕ) (b : Book) → quantities (without k b) ≤ quantities b
 quantities-without k [] = omega arith
 quantities-without k (c ∷ b) =
     let ih = quantities-without k b in
@@ -51,26 +52,25 @@ quantities-out k u [] = refl
 quantities-out k u (c ∷ b) =
     cond-both (eqb (key-of c) k) (sent u c ∷ b) (c ∷ out k u b) (λ r. quantities r ≡ quantities (c ∷ b)) (λ e. refl) (λ e. ap (λ n. c .demand .first + n) (quantities-out k u b))
 
--- the sum alone, with 0 for every unit
-pub pool-own : (n : ℕ) → Own (λ b. leb (quantities b) n) (λ _. 0)
-pool-own n = record {
+abbrev pub pool-goods : ℕ → Fixed
+pool-goods n = record {
+  formed = one-number most-units;
+  amount = λ d. d .first;
+  suffice = λ b. leb (quantities b) n;
+  unit = λ _. 0;
+  short = PoolShort;
+  amounts = λ d e. one-number-says most-units d e;
   none = le-leb 0 n (omega arith);
   fewer = λ j b e. le-leb (quantities (without j b)) n (omega (arith, quantities-without j b, leb-true (quantities b) n e));
   alike = λ j u b. ap (λ (m : ℕ). leb m n) (quantities-out j u b);
   small = λ j c b e f. omega arith;
 }
 
-pub pool-laws : (s n : ℕ) → Laws (pool s n)
-pool-laws s n = fixed-laws s (one-number most-units) (λ d. d .first) (λ b. leb (quantities b) n) (λ _. 0) PoolShort (pool-own n) (λ d e.
-    let p = and-parts (leb 1 (d .first) && leb (d .first) most-units) (eqb (d .second) 0) e .0 in
-    let q = and-parts (leb 1 (d .first)) (leb (d .first) most-units) p in
-    (leb-true 1 (d .first) (q .0), leb-true (d .first) most-units (q .1)))
-
 pub escrow : (s n : ℕ) → Escrow-rule s n
 escrow s n b =
-    let e = carries-exactly s (one-number most-units) (λ d. d .first) (λ b. leb (quantities b) n) (λ _. 0) PoolShort (pool-own n) b in (
-      (λ t. let p = e .0 t in record { few = p .0; covered = leb-true (quantities b) n (p .1); alike = p .2 }),
-      (λ h. e .1 (h .few, le-leb (quantities b) n (h .covered), h .alike)),
+    let e = carries-exactly s (pool-goods n) b in (
+      (λ t. let p = e .0 t in record { few = p .few; covered = leb-true (quantities b) n (p .sufficient); alike = p .units }),
+      (λ h. e .1 (record { few = h .few; sufficient = le-leb (quantities b) n (h .covered); units = h .alike })),
     )
 
 -- where the pool is carried, one claim more has to fit into what is left

@@ -31,8 +31,14 @@ use Rattle.claims.proofs.Books.{length-insert, length-without, length-out, ever
 use Rattle.resource.specs.Calls.{Placed, Lifted, Drawn}
 use Rattle.resource.specs.Draws.{drawn}
 use Rattle.resource.proofs.Refusals.{welcomed, least-is, goes-out}
-use Rattle.goods.specs.Shelves.{Kind, on-shelf, waits-or-has, shelved, barred, found, found-waiting}
+use Rattle.goods.specs.Shelves.{Kind, on-shelf, one-number, shelved, barred, found, found-waiting}
 use Rattle.goods.proofs.Every.{and-true, true-and, every-find, every-nth, every-shows, every-sent, every-out}
+
+pub one-number-says : (most : ℕ) (d : Demand) → one-number most d ≡ true → (1 ≤ d .first) × (d .first ≤ most)
+one-number-says most d e =
+    let p = and-parts (leb 1 (d .first) && leb (d .first) most) (eqb (d .second) 0) e .0 in
+    let q = and-parts (leb 1 (d .first)) (leb (d .first) most) p in
+    (leb-true 1 (d .first) (q .0), leb-true (d .first) most (q .1))
 
 -- the refusal of a claim that is barred, or for which there may not be enough
 abbrev pub or-short : Option Cause → Bool → Cause → Option Cause
@@ -166,75 +172,3 @@ stays k r b f e = go (find b (k .0)) refl e
 -- a claim that is lifted leaves the rest carried
 pub leaves : (r : Rules) → Laws r → (b b′ : Book) (j : ℕ) → Rising b → r .carries b ≡ true → every (readable r) b ≡ true → b′ ≡ without j b → (r .carries b′ ≡ true) × (every (readable r) b′ ≡ true)
 leaves r laws b b′ j h e all after = (ap (r .carries) after ∙ laws .fewer b j h e, ap (every (readable r)) after ∙ every-without (readable r) j b all)
-
--- whether a claim has its unit, by what its state says
-unit-says : (u : ℕ) (q : ClaimState) (i : ItemNumber) → waits-or-has u q ≡ true → q ≡ Out i → i .0 ≡ u
-unit-says u q i e w = eqb-true (i .0) u (ap (waits-or-has u) (sym w) ∙ e)
-
-unit-shows : (u : ℕ) (q : ClaimState) → ((i : ItemNumber) → q ≡ Out i → i .0 ≡ u) → waits-or-has u q ≡ true
-unit-shows u Waiting h = refl
-unit-shows u (Out i) h = eq-eqb (i .0) u (h i refl)
-
--- what goods are to show whose demands say which unit goes out
-pub record Own (own : Book → Bool) (unit : Demand → ℕ) : Type 0 where
-  pub none : own [] ≡ true
-  pub fewer : (j : ℕ) (b : Book) → own b ≡ true → own (without j b) ≡ true
-  pub alike : (j u : ℕ) (b : Book) → own (out j u b) ≡ own b
-  pub small : (j : ℕ) (c : Claim) (b : Book) → own b ≡ true → find b j ≡ Some c → unit (c .demand) ≤ last-unit
-
-module _ (s : ℕ) (formed : Demand → Bool) (amount : Demand → ℕ) (own : Book → Bool) (unit : Demand → ℕ) (short : Cause) (o : Own own unit) where
-  abbrev proper : Claim → Bool
-  proper c = waits-or-has (unit (c .demand)) (c .state)
-
-  abbrev fixed : Kind
-  fixed = record { formed = formed; amount = amount; enough = λ b. own b && every proper b; short = short }
-
-  enough-out : (j u : ℕ) (c : Claim) (b : Book) → fixed .enough b ≡ true → find b j ≡ Some c → fixed .enough (out j u b) ≡ eqb u (unit (c .demand))
-  enough-out j u c b e f =
-      let p = and-parts (own b) (every proper b) e in
-      true-and (own (out j u b)) (every proper (out j u b)) (o .alike j u b ∙ p .0) ∙ every-sent proper j u c b (p .1) f
-
-  carries-out : (j u : ℕ) (c : Claim) (b : Book) → shelved s fixed .carries b ≡ true → find b j ≡ Some c → shelved s fixed .carries (out j u b) ≡ eqb u (unit (c .demand))
-  carries-out j u c b e f =
-      let p = carries-says s fixed b e in
-      true-and (leb (length (out j u b)) most-claims) (fixed .enough (out j u b)) (le-leb (length (out j u b)) most-claims (omega (arith, length-out j u b, p .0))) ∙ enough-out j u c b (p .1) f
-
-  drawn-is : (j : ℕ) (c : Claim) (b : Book) → shelved s fixed .carries b ≡ true → find b j ≡ Some c → drawn (shelved s fixed) b j ≡ unit (c .demand)
-  drawn-is j c b e f =
-      let v = unit (c .demand) in
-      let top = o .small j c b (and-parts (own b) (every proper b) (carries-says s fixed b e .1) .0) f in
-      least-is (λ u. shelved s fixed .carries (out j u b)) 0 (suc last-unit) v (omega arith) (omega arith)
-      (carries-out j v c b e f ∙ eq-eqb v v refl)
-      (λ u l h. carries-out j u c b e f ∙ ne-eqb u v (λ g. omega arith))
-
-  -- a claim that waits goes out with the unit of its demand
-  pub goes-out-as : (k : ClaimKey) (b b′ : Book) (c : Claim) → shelved s fixed .carries b ≡ true → every (readable (shelved s fixed)) b ≡ true → found-waiting k (find b (k .0)) ≡ Ok c → b′ ≡ out (k .0) (unit (c .demand)) b →
-      (shelved s fixed .carries b′ ≡ true) × (every (readable (shelved s fixed)) b′ ≡ true) × Drawn k (shelved s fixed) b (Ok (record { 0 = unit (c .demand) })) (shelved s fixed) b′
-  goes-out-as k b b′ c e all f after =
-      let v = unit (c .demand) in
-      let w = waits-there k (find b (k .0)) c f in (
-        ap (shelved s fixed .carries) after ∙ carries-out (k .0) v c b e (w .0) ∙ eq-eqb v v refl,
-        ap (every (readable (shelved s fixed))) after ∙ every-out (readable (shelved s fixed)) (k .0) v b (λ x. refl) ∙ all,
-        goes-out k (shelved s fixed) b b′ v c (w .0) (w .1) (drawn-is (k .0) c b e (w .0)) after,
-      )
-
-  -- a book is carried exactly if it has few claims, the goods suffice, and each claim that is out has its unit
-  pub carries-exactly : (b : Book) → Decides (shelved s fixed .carries b) ((length b ≤ most-claims) × (own b ≡ true) × ((i : ℕ) (c : Claim) (u : ItemNumber) → nth b i ≡ Some c → c .state ≡ Out u → u .0 ≡ unit (c .demand)))
-  carries-exactly b = (
-    (λ e.
-        let p = carries-says s fixed b e in
-        let q = and-parts (own b) (every proper b) (p .1) in
-        (p .0, q .0, λ i c u f w. unit-says (unit (c .demand)) (c .state) u (every-nth proper i c b (q .1) f) w)),
-    (λ h. carries-shows s fixed b (h .0) (and-from (own b) (every proper b) (h .1) (every-shows proper b (λ i c f. unit-shows (unit (c .demand)) (c .state) (λ u w. h .2 i c u f w))))),
-  )
-
-  pub fixed-laws : ((d : Demand) → formed d ≡ true → (1 ≤ amount d) × (amount d ≤ most-units)) → Laws (shelved s fixed)
-  fixed-laws amounts = shelved-laws s fixed
-      (and-from (own []) true (o .none) refl)
-      (λ b j h e. let p = and-parts (own b) (every proper b) e in and-from (own (without j b)) (every proper (without j b)) (o .fewer j b (p .0)) (every-without proper j b (p .1)))
-      (λ b j c h e f w. (unit (c .demand), enough-out j (unit (c .demand)) c b e f ∙ eq-eqb (unit (c .demand)) (unit (c .demand)) refl))
-      (λ b j c i h e f w.
-      let p = and-parts (own b) (every proper b) e in
-      let q : eqb (i .0) (unit (c .demand)) ≡ true = ap (waits-or-has (unit (c .demand))) (sym w) ∙ every-find proper j c b (p .1) f in
-      omega (arith, eqb-true (i .0) (unit (c .demand)) q, o .small j c b (p .0) f))
-      amounts

@@ -1,3 +1,4 @@
 pub mod Shelves
 pub mod Pooled
+pub mod NamedGoods
 pub mod Views

@@ -6,7 +6,8 @@ use Rattle.claims.proofs.Ranks.{rises-says}
 use Rattle.std.proofs.shelf.Results.{err-from-errBy}
 use Rattle.goods.specs.Pooled.{quantities}
 use Rattle.goods.specs.Views.{pool-book, pool-rules}
-use Rattle.goods.proofs.Pools.{pool-laws, quantities-lift}
+use Rattle.goods.proofs.Fixed.{fixed-laws}
+use Rattle.goods.proofs.Pools.{pool-goods, quantities-lift}
 use Rattle.goods.proofs.Shelving.{stays, lies-there, leaves}
 use Rattle.goods.proofs.pooling.PoolResource.lift.Needs as need
 
@@ -30,5 +31,5 @@ ghost-self c =
     let b = pool-book s in
     let e = c .remove .ensures .after in
     let q = quantities-lift (k .0) (c .in-Continue-claim .claim) b (lies-there k (find b (k .0)) (c .in-Continue-claim .claim) (sym (c .in-Continue-claim .ensures tt))) in
-    let l = leaves (pool-rules s) (pool-laws (s .shelf) (s .size)) b _ (k .0) (rises-says b (s .claims .ordered)) (s .carries) (s .reads) e in
+    let l = leaves (pool-rules s) (fixed-laws (s .shelf) (pool-goods (s .size))) b _ (k .0) (rises-says b (s .claims .ordered)) (s .carries) (s .reads) e in
     (s .sized, (omega (arith, s .summed, q, ap quantities e), (l .0, (l .1, tt))))
