@@ -5,11 +5,12 @@ use mathlib.Core.List.{[], _∷_}
 use Prim.Native.Nat.{ℕ, zero, suc, _+_, _<_, _≤_}
 use native.Mathlib.Omega.{arith}
 use lib.Dec.{eqb, leb, ltb}
-use lib.ListN.{length}
+use lib.ListN.{length, getD, drop}
 use Rattle.std.specs.Orderings.{Decides}
 use Rattle.std.specs.declared.option.Option.the-variants.{Some}
 use Rattle.std.specs.shelf.Maps.{nth}
-use Rattle.std.proofs.shelf.Tests.{and-parts, and-from, or-parts, or-from, not-true, not-from-false, eqb-true, eqb-false, eq-eqb, ne-eqb, leb-true, le-leb, cond-both, false≢true}
+use Rattle.std.proofs.shelf.Lists.{at-drop-more, at-drop-all}
+use Rattle.std.proofs.shelf.Tests.{and-parts, and-from, or-parts, or-from, or-left, not-true, not-from-false, eqb-true, eqb-false, eq-eqb, ne-eqb, leb-true, le-leb, cond-both, false≢true}
 use Rattle.std.proofs.shelf.Ways.{tells}
 use Rattle.claims.specs.declared.Cause.the-variants.{ItemTaken}
 use Rattle.claims.specs.declared.Claim.{Claim}
@@ -48,6 +49,16 @@ names-says i (suc j) c (x ∷ b) n f e = names-says i j c b (or-parts (eqb (item
 names-shows : (i : ℕ) (b : Book) → ((j : ℕ) (c : Claim) → nth b j ≡ Some c → item c ≡ i → ⊥) → names i b ≡ false
 names-shows i [] h = refl
 names-shows i (x ∷ b) h = or-from (eqb (item x) i) (names i b) (ne-eqb (item x) i (h 0 x refl)) (names-shows i b (λ j c f. h (suc j) c f))
+
+-- a look through the claims: past one that names another item, at one that names it, and at the end
+pub names-passed : (i j : ℕ) (d : Claim) (b : Book) → j < length b → (item (getD b j d) ≡ i → ⊥) → names i (drop j b) ≡ names i (drop (j + 1) b)
+names-passed i j d b l ne = at-drop-more (names i) b j d l ∙ ap (λ (q : Bool). q || names i (drop (j + 1) b)) (ne-eqb (item (getD b j d)) i ne)
+
+pub names-here : (i j : ℕ) (d : Claim) (b : Book) → j < length b → item (getD b j d) ≡ i → names i (drop j b) ≡ true
+names-here i j d b l e = at-drop-more (names i) b j d l ∙ or-left (eqb (item (getD b j d)) i) (names i (drop (j + 1) b)) (eq-eqb (item (getD b j d)) i e)
+
+pub names-end : (i j : ℕ) (b : Book) → length b ≤ j → names i (drop j b) ≡ false
+names-end i j b l = at-drop-all (names i) b j l
 
 -- where no item is named twice, one claim more has to name another
 distinct-with : (x : Claim) (b : Book) → distinct b ≡ true → distinct (insert x b) ≡ not (names (item x) b)
@@ -100,3 +111,25 @@ named-goods n small = record {
   alike = λ j u b. ap (λ (q : Bool). q && every (in-stock n) (out j u b)) (distinct-out j u b) ∙ ap (λ (q : Bool). distinct b && q) (every-out (in-stock n) j u b (λ c. refl));
   small = λ j c b e f. omega (arith, leb-true (item c) n (every-find (in-stock n) j c b (and-parts (distinct b) (every (in-stock n) b) e .1) f));
 }
+
+pub apart : (s n : ℕ) → n ≤ most-goods → Items-rule s n
+apart s n small b =
+    let e = carries-exactly s (named-goods n small) b in (
+      (λ t.
+          let p = e .0 t in
+          let q = and-parts (distinct b) (every (in-stock n) b) (p .sufficient) in
+          record { few = p .few; once = distinct-says b (q .0); there = λ i c f. leb-true (item c) n (every-nth (in-stock n) i c b (q .1) f); own = p .units }),
+      (λ h.
+          let all : every (in-stock n) b ≡ true = every-shows (in-stock n) b (λ i c f. le-leb (item c) n (h .there i c f)) in
+          e .1 (record { few = h .few; sufficient = and-from (distinct b) (every (in-stock n) b) (distinct-shows b (h .once)) all; units = h .own })),
+    )
+
+-- where named goods are carried, one claim more has to name another item, and one of them
+pub fits-in : (s n : ℕ) (x : Claim) (b : Book) → named s n .carries b ≡ true → (not (names (item x) b) && in-stock n x && as-named x) ≡ named-kind n .enough (insert x b)
+fits-in s n x b e =
+    let p = and-parts (distinct b && every (in-stock n) b) (every as-named b) (carries-says s (named-kind n) b e .1) in
+    let q = and-parts (distinct b) (every (in-stock n) b) (p .0) in
+    let one = distinct-with x b (q .0) in
+    let two = every-with (in-stock n) x b (q .1) in
+    let three = every-with as-named x b (p .1) in
+    cc
