@@ -2,7 +2,7 @@
 use mathlib.Core.Path.{_≡_, refl, sym, ap, _∙_}
 use mathlib.Core.Bool.{Bool, true, _&&_}
 use mathlib.Core.List.{[]}
-use Prim.Native.Nat.{ℕ, suc, _+_, _<_, _≤_}
+use Prim.Native.Nat.{ℕ, suc, _≤_}
 use native.Mathlib.Omega.{arith}
 use lib.Dec.{eqb, leb}
 use lib.ListN.{length}
@@ -25,7 +25,8 @@ use Rattle.claims.proofs.Books.{length-out, every-without}
 use Rattle.resource.specs.Calls.{Drawn}
 use Rattle.resource.specs.Draws.{drawn}
 use Rattle.resource.proofs.Refusals.{least-is, goes-out}
-use Rattle.goods.specs.Shelves.{Kind, waits-or-has, shelved, found-waiting}
+use Rattle.goods.specs.Asked.{found-waiting}
+use Rattle.goods.specs.Shelves.{Kind, waits-or-has, shelved}
 use Rattle.goods.proofs.Every.{true-and, every-find, every-nth, every-shows, every-sent, every-out}
 use Rattle.goods.proofs.Shelving.{carries-says, carries-shows, waits-there, shelved-laws}
 

@@ -1,25 +1,23 @@
 -- Which items a book names with a claim more or less, and that named goods keep items apart.
 use mathlib.Core.Path.{_≡_, refl, sym, ap, _∙_}
-use mathlib.Core.Bool.{Bool, true, false, not, cond, _&&_, _||_}
+use mathlib.Core.Bool.{Bool, true, false, not, _&&_, _||_}
 use mathlib.Core.List.{[], _∷_}
 use Prim.Native.Nat.{ℕ, zero, suc, _+_, _<_, _≤_}
 use native.Mathlib.Omega.{arith}
-use lib.Dec.{eqb, leb, ltb}
+use lib.Dec.{eqb, ltb}
 use lib.ListN.{length, getD, drop}
-use Rattle.std.specs.Orderings.{Decides}
 use Rattle.std.specs.declared.option.Option.the-variants.{Some}
 use Rattle.std.specs.shelf.Maps.{nth}
 use Rattle.std.proofs.shelf.Lists.{at-drop-more, at-drop-all}
-use Rattle.std.proofs.shelf.Tests.{and-parts, and-from, or-parts, or-from, or-left, not-true, not-from-false, eqb-true, eqb-false, eq-eqb, ne-eqb, leb-true, le-leb, cond-both, false≢true}
+use Rattle.std.proofs.shelf.Tests.{and-parts, and-from, or-parts, or-from, or-left, not-true, not-from-false, eqb-false, eq-eqb, ne-eqb, leb-true, le-leb, cond-both}
 use Rattle.std.proofs.shelf.Ways.{tells}
 use Rattle.claims.specs.declared.Cause.the-variants.{ItemTaken}
 use Rattle.claims.specs.declared.Claim.{Claim}
-use Rattle.claims.specs.Book.{Book, key-of, find, insert, without, sent, out, every}
-use Rattle.claims.specs.Limits.{most-units}
+use Rattle.claims.specs.Book.{Book, key-of, insert, without, sent, out, every}
 use Rattle.claims.proofs.Books.{every-without}
-use Rattle.goods.specs.NamedGoods.{item, names, distinct, in-stock, as-named, named-kind, named, Kept-apart, Items-rule}
+use Rattle.goods.specs.NamedGoods.{item, names, distinct, in-stock, as-named, named-kind, named, Items-rule}
 use Rattle.goods.specs.Shelves.{most-goods, one-number}
-use Rattle.goods.proofs.Every.{and-true, true-and, every-find, every-nth, every-shows, every-with, every-out}
+use Rattle.goods.proofs.Every.{and-true, every-find, every-nth, every-shows, every-with, every-out}
 use Rattle.goods.proofs.Fixed.{Fixed, carries-exactly}
 use Rattle.goods.proofs.Shelving.{carries-says}
 

@@ -2,25 +2,17 @@
 use mathlib.Core.Path.{_≡_, refl, sym, ap, _∙_}
 use mathlib.Core.Bool.{Bool, true, false, cond, _&&_}
 use mathlib.Core.List.{[], _∷_}
-use Prim.Native.Nat.{ℕ, zero, suc, _+_, _-_, _<_, _≤_}
+use Prim.Native.Nat.{ℕ, _+_, _-_, _≤_}
 use native.Mathlib.Omega.{arith}
 use lib.Dec.{eqb, leb, ltb}
-use lib.ListN.{length}
-use Rattle.std.specs.Orderings.{Decides}
 use Rattle.std.specs.declared.option.Option.the-variants.{Some}
-use Rattle.std.specs.shelf.Maps.{nth}
 use Rattle.std.proofs.shelf.Tests.{and-parts, leb-true, le-leb, cond-both}
 use Rattle.std.proofs.shelf.Ways.{tells}
 use Rattle.claims.specs.declared.Cause.the-variants.{PoolShort}
 use Rattle.claims.specs.declared.Claim.{Claim}
-use Rattle.claims.specs.declared.ClaimState.{ClaimState}
-use Rattle.claims.specs.declared.ClaimState.the-variants.{Waiting, Out}
-use Rattle.claims.specs.declared.Demand.{Demand}
-use Rattle.claims.specs.declared.ItemNumber.{ItemNumber}
 use Rattle.claims.specs.Book.{Book, key-of, find, insert, without, sent, out, every}
 use Rattle.claims.specs.Limits.{most-units}
-use Rattle.claims.specs.Rules.{Laws}
-use Rattle.goods.specs.Pooled.{quantities, unnumbered, pool-kind, pool, Escrowed, Escrow-rule}
+use Rattle.goods.specs.Pooled.{quantities, unnumbered, pool-kind, pool, Escrow-rule}
 use Rattle.goods.specs.Shelves.{one-number}
 use Rattle.goods.proofs.Every.{every-with}
 use Rattle.goods.proofs.Fixed.{Fixed, carries-exactly}

@@ -1,20 +1,18 @@
--- What holds of every kind of goods on a shelf, and of those whose demands say which unit goes out.
+-- What holds of every kind of goods on a shelf: how it takes claims in, and which laws follow from those of its goods.
 use mathlib.Core.Path.{_≡_, refl, sym, ap, subst, _∙_}
 use mathlib.Core.Bool.{Bool, true, false, cond, _&&_}
 use mathlib.Core.List.{[]}
-use Prim.Native.Nat.{ℕ, suc, _+_, _<_, _≤_}
+use Prim.Native.Nat.{ℕ, _≤_}
 use native.Mathlib.Omega.{arith}
 use native.Mathlib.Numerals.{add-one}
 use lib.Dec.{eqb, leb, ltb}
 use lib.ListN.{length}
 use Rattle.std.specs.Options.{isSome}
-use Rattle.std.specs.Orderings.{Decides}
-use Rattle.std.specs.shelf.Maps.{nth}
 use Rattle.std.specs.declared.option.Option.{Option}
 use Rattle.std.specs.declared.option.Option.the-variants.{Some, None}
 use Rattle.std.specs.declared.result.Result.{Result}
 use Rattle.std.specs.declared.result.Result.the-variants.{Ok, Err}
-use Rattle.std.proofs.shelf.Tests.{and-parts, and-from, eqb-true, eq-eqb, ne-eqb, leb-true, le-leb, cond-true, cond-false}
+use Rattle.std.proofs.shelf.Tests.{and-parts, and-from, eqb-true, leb-true, le-leb, cond-true, cond-false}
 use Rattle.claims.specs.declared.Cause.{Cause}
 use Rattle.claims.specs.declared.Cause.the-variants.{Unreadable, KeyTaken, NoSuchKey, AlreadyOut, TooManyClaims}
 use Rattle.claims.specs.declared.Claim.{Claim}
@@ -24,15 +22,14 @@ use Rattle.claims.specs.declared.ClaimState.the-variants.{Waiting, Out}
 use Rattle.claims.specs.declared.Demand.{Demand}
 use Rattle.claims.specs.declared.Fault.{Fault}
 use Rattle.claims.specs.declared.ItemNumber.{ItemNumber}
-use Rattle.claims.specs.Book.{Book, key-of, find, insert, without, sent, out, Rising, every}
+use Rattle.claims.specs.Book.{Book, key-of, find, insert, without, out, Rising, every}
 use Rattle.claims.specs.Limits.{most-claims, last-shelf, most-units, last-unit}
-use Rattle.claims.specs.Rules.{Rules, Laws, refusal, answered, added, lifted, shut-out, readable}
+use Rattle.claims.specs.Rules.{Rules, Laws, refusal, answered, added, lifted, shut-out, readable, is-party}
 use Rattle.claims.proofs.Books.{length-insert, length-without, length-out, every-insert, every-without, without-absent}
-use Rattle.resource.specs.Calls.{Placed, Lifted, Drawn}
-use Rattle.resource.specs.Draws.{drawn}
-use Rattle.resource.proofs.Refusals.{welcomed, least-is, goes-out}
-use Rattle.goods.specs.Shelves.{Kind, on-shelf, one-number, shelved, barred, found, found-waiting}
-use Rattle.goods.proofs.Every.{and-true, true-and, every-find, every-nth, every-shows, every-sent, every-out}
+use Rattle.resource.specs.Calls.{Placed, Lifted}
+use Rattle.resource.proofs.Refusals.{welcomed}
+use Rattle.goods.specs.Asked.{barred, found, found-waiting}
+use Rattle.goods.specs.Shelves.{Kind, on-shelf, one-number, shelved}
 
 pub one-number-says : (most : ℕ) (d : Demand) → one-number most d ≡ true → (1 ≤ d .first) × (d .first ≤ most)
 one-number-says most d e =
@@ -44,6 +41,15 @@ one-number-says most d e =
 abbrev pub or-short : Option Cause → Bool → Cause → Option Cause
 or-short (Some x) e short = Some x
 or-short None e short = cond e None (Some short)
+
+-- what is answered Ok has nothing against it
+unbarred : (k : ClaimKey) (o : Option Cause) → Ok tt ≡ answered k o → o ≡ None
+unbarred k None e = refl
+unbarred k (Some x) e = absurd (let z : _≡_ {A = ℕ} 0 1 = cc in omega arith)
+
+let-in : (q : Bool) (o : Option Cause) → cond q o (Some Unreadable) ≡ None → o ≡ None
+let-in true o e = e
+let-in false o e = absurd (let z : _≡_ {A = ℕ} 0 1 = cc in omega arith)
 
 -- a claim that has come into a book
 pub record Entered (s : ℕ) (k : Kind) (b b′ : Book) (c : Claim) : Type 0 where
@@ -60,10 +66,11 @@ module _ (s : ℕ) (k : Kind) where
   carries-shows b l e = and-from (leb (length b) most-claims) (k .enough b) (le-leb (length b) most-claims l) e
 
   -- a refusal looks at the bars first, and then at the goods
-  pub refusal-is : (b : Book) (c : Claim) → refusal (shelved s k) b c ≡ or-short (barred (shelved s k .reads (c .demand)) b c) (k .enough (insert c b)) (k .short)
-  refusal-is b c =
+  refusal-is : (b : Book) (c : Claim) (read : Bool) → read ≡ shelved s k .reads (c .demand) → refusal (shelved s k) b c ≡ or-short (barred read b c) (k .enough (insert c b)) (k .short)
+  refusal-is b c read e =
       ap (λ (l : Bool). ways (readable (shelved s k) c) (isSome (find b (key-of c))) l) (ap (λ (n : ℕ). leb n most-claims) (length-insert c b ∙ add-one (length b)))
       ∙ same (readable (shelved s k) c) (isSome (find b (key-of c))) (ltb (length b) most-claims)
+      ∙ ap (λ (q : Bool). or-short (barred q b c) (k .enough (insert c b)) (k .short)) (sym e)
     where
       ways : Bool → Bool → Bool → Option Cause
       ways q f l = cond q (cond f (Some KeyTaken) (cond (l && k .enough (insert c b)) None (Some (cond l (k .short) TooManyClaims)))) (Some Unreadable)
@@ -74,49 +81,36 @@ module _ (s : ℕ) (k : Kind) where
       same true false false = refl
       same false f l = refl
 
-  -- what a claim has passed that is not barred
-  unbarred : (b : Book) (c : Claim) → answered (c .key) (barred (shelved s k .reads (c .demand)) b c) ≡ Ok tt → shut-out b c ≡ None
-  unbarred b c e = go (readable (shelved s k) c) (shut-out b c) refl e
-    where
-      go : (q : Bool) (o : Option Cause) → shut-out b c ≡ o → answered (c .key) (cond q o (Some Unreadable)) ≡ Ok tt → shut-out b c ≡ None
-      go true None r f = r
-      go true (Some x) r f = absurd (let z : _≡_ {A = ℕ} 0 1 = cc in omega arith)
-      go false o r f = absurd (let z : _≡_ {A = ℕ} 0 1 = cc in omega arith)
+  placed-by : (b : Book) (c : Claim) (o : Option Cause) → refusal (shelved s k) b c ≡ o → Placed c (shelved s k) b (answered (c .key) o) (shelved s k) (added c b o)
+  placed-by b c o r = record { same = refl; value = ap (answered (c .key)) (sym r); after = ap (added c b) (sym r) }
 
-  passed : (b : Book) (c : Claim) → answered (c .key) (barred (shelved s k .reads (c .demand)) b c) ≡ Ok tt → refusal (shelved s k) b c ≡ or-short None (k .enough (insert c b)) (k .short)
-  passed b c e = go (barred (shelved s k .reads (c .demand)) b c) (refusal-is b c) e
-    where
-      go : (o : Option Cause) → refusal (shelved s k) b c ≡ or-short o (k .enough (insert c b)) (k .short) → answered (c .key) o ≡ Ok tt → refusal (shelved s k) b c ≡ or-short None (k .enough (insert c b)) (k .short)
-      go None r g = r
-      go (Some x) r g = absurd (let z : _≡_ {A = ℕ} 0 1 = cc in omega arith)
+  module _ (b : Book) (c : Claim) (read : Bool) (known : read ≡ shelved s k .reads (c .demand)) where
+    -- a claim is turned away at the bars,
+    pub turned-away : (f : Fault) → Err f ≡ answered (c .key) (barred read b c) → Placed c (shelved s k) b (Err f) (shelved s k) b
+    turned-away f e = go (barred read b c) (refusal-is b c read known) e
+      where
+        go : (o : Option Cause) → refusal (shelved s k) b c ≡ or-short o (k .enough (insert c b)) (k .short) → Err f ≡ answered (c .key) o → Placed c (shelved s k) b (Err f) (shelved s k) b
+        go None r g = absurd (let z : _≡_ {A = ℕ} 0 1 = cc in omega arith)
+        go (Some x) r g = subst (λ (a : Result (Unit {0}) Fault). Placed c (shelved s k) b a (shelved s k) b) (sym g) (placed-by b c (Some x) r)
 
-  -- a claim that is turned away at the bars,
-  pub turned-away : (b : Book) (c : Claim) (f : Fault) → answered (c .key) (barred (shelved s k .reads (c .demand)) b c) ≡ Err f → Placed c (shelved s k) b (Err f) (shelved s k) b
-  turned-away b c f e = go (barred (shelved s k .reads (c .demand)) b c) (refusal-is b c) e
-    where
-      go : (o : Option Cause) → refusal (shelved s k) b c ≡ or-short o (k .enough (insert c b)) (k .short) → answered (c .key) o ≡ Err f → Placed c (shelved s k) b (Err f) (shelved s k) b
-      go None r g = absurd (let z : _≡_ {A = ℕ} 0 1 = cc in omega arith)
-      go (Some x) r g = record { same = refl; value = sym g ∙ ap (answered (c .key)) (sym r); after = ap (added c b) (sym r) }
+    -- or falls short of goods,
+    pub falls-short : Ok tt ≡ answered (c .key) (barred read b c) → k .enough (insert c b) ≡ false → Placed c (shelved s k) b (Err (record { cause = k .short; key = c .key })) (shelved s k) b
+    falls-short e n = placed-by b c (Some (k .short))
+        (refusal-is b c read known ∙ ap (λ (o : Option Cause). or-short o (k .enough (insert c b)) (k .short)) (unbarred (c .key) (barred read b c) e) ∙ cond-false (k .enough (insert c b)) None (Some (k .short)) n)
 
-  -- for want of goods,
-  pub falls-short : (b : Book) (c : Claim) → answered (c .key) (barred (shelved s k .reads (c .demand)) b c) ≡ Ok tt → k .enough (insert c b) ≡ false →
-      Placed c (shelved s k) b (Err (record { cause = k .short; key = c .key })) (shelved s k) b
-  falls-short b c e n = let r = passed b c e ∙ cond-false (k .enough (insert c b)) None (Some (k .short)) n in
-      record { same = refl; value = ap (answered (c .key)) (sym r); after = ap (added c b) (sym r) }
-
-  -- or comes in
-  pub comes-in : (b b′ : Book) (c : Claim) → every (readable (shelved s k)) b ≡ true → answered (c .key) (barred (shelved s k .reads (c .demand)) b c) ≡ Ok tt → k .enough (insert c b) ≡ true →
-      b′ ≡ added c b (shut-out b c) → Entered s k b b′ c
-  comes-in b b′ c all e y after =
-      let r = passed b c e ∙ cond-true (k .enough (insert c b)) None (Some (k .short)) y in
-      let w = welcomed (shelved s k) b c r in
-      let in′ : b′ ≡ insert c b = after ∙ ap (added c b) (unbarred b c e) in
-      record {
-        inserted = in′;
-        carried = ap (shelved s k .carries) in′ ∙ w .2;
-        all-read = ap (every (readable (shelved s k))) in′ ∙ every-insert (readable (shelved s k)) c b (w .0) all;
-        placed = record { same = refl; value = ap (answered (c .key)) (sym r); after = in′ ∙ ap (added c b) (sym r) };
-      }
+    -- or comes in
+    pub comes-in : (b′ : Book) → every (readable (shelved s k)) b ≡ true → Ok tt ≡ answered (c .key) (barred read b c) → k .enough (insert c b) ≡ true → b′ ≡ added c b (shut-out b c) → Entered s k b b′ c
+    comes-in b′ all e y after =
+        let free = unbarred (c .key) (barred read b c) e in
+        let r = refusal-is b c read known ∙ ap (λ (o : Option Cause). or-short o (k .enough (insert c b)) (k .short)) free ∙ cond-true (k .enough (insert c b)) None (Some (k .short)) y in
+        let w = welcomed (shelved s k) b c r in
+        let in′ : b′ ≡ insert c b = after ∙ ap (added c b) (let-in (is-party (c .party) && read) (shut-out b c) free) in
+        record {
+          inserted = in′;
+          carried = ap (shelved s k .carries) in′ ∙ w .2;
+          all-read = ap (every (readable (shelved s k))) in′ ∙ every-insert (readable (shelved s k)) c b (w .0) all;
+          placed = subst (λ (z : Book). Placed c (shelved s k) b (Ok tt) (shelved s k) z) (sym in′) (placed-by b c None r);
+        }
 
   -- the laws of a kind, from those of its goods
   pub shelved-laws :

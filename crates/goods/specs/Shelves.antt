@@ -5,21 +5,14 @@ use mathlib.Core.Path.{_≡_}
 use Prim.Native.Nat.{ℕ}
 use lib.Dec.{eqb, leb}
 use lib.ListN.{length}
-use Rattle.std.specs.declared.option.Option.{Option}
-use Rattle.std.specs.declared.option.Option.the-variants.{Some, None}
-use Rattle.std.specs.declared.result.Result.{Result}
-use Rattle.std.specs.declared.result.Result.the-variants.{Ok, Err}
 use Rattle.claims.specs.declared.Cause.{Cause}
-use Rattle.claims.specs.declared.Cause.the-variants.{Unreadable, NoSuchKey, AlreadyOut, TooManyClaims}
-use Rattle.claims.specs.declared.Claim.{Claim}
-use Rattle.claims.specs.declared.ClaimKey.{ClaimKey}
+use Rattle.claims.specs.declared.Cause.the-variants.{TooManyClaims}
 use Rattle.claims.specs.declared.ClaimState.{ClaimState}
 use Rattle.claims.specs.declared.ClaimState.the-variants.{Waiting, Out}
 use Rattle.claims.specs.declared.Demand.{Demand}
-use Rattle.claims.specs.declared.Fault.{Fault}
 use Rattle.claims.specs.Book.{Book}
 use Rattle.claims.specs.Limits.{most-claims, last-shelf}
-use Rattle.claims.specs.Rules.{Rules, is-party, shut-out}
+use Rattle.claims.specs.Rules.{Rules}
 
 -- as many goods as may be named or listed
 abbrev pub most-goods : ℕ
@@ -62,21 +55,7 @@ shelved s k = record {
   cause = capped (k .short);
 }
 
--- why a claim is turned away before the goods are looked at, if it is: whether its demand is read is known
-abbrev pub barred : Bool → Book → Claim → Option Cause
-barred read b c = cond (is-party (c .party) && read) (shut-out b c) (Some Unreadable)
-
 -- goods just put on their shelf have the rules of their kind, and no claims
 pub record Opened (kind : Rules) (r : Rules) (b : Book) : Type 0 where
   pub ruled : r ≡ kind
   pub unclaimed : b ≡ []
-
--- the claim under a key, or that there is none
-abbrev pub found : ClaimKey → Option Claim → Result Claim Fault
-found k None = Err (record { cause = NoSuchKey; key = k })
-found k (Some c) = Ok c
-
--- the claim under a key, or that there is none that waits
-abbrev pub found-waiting : ClaimKey → Option Claim → Result Claim Fault
-found-waiting k None = Err (record { cause = NoSuchKey; key = k })
-found-waiting k (Some c) = elim (c .state) [ Waiting ↦ Ok c | Out i ↦ Err (record { cause = AlreadyOut; key = k }) ]

@@ -1,4 +1,4 @@
-use mathlib.Core.Path.{_∙_}
+-- A new item that is in stock decides whether one claim more is carried.
 use Rattle.goods.specs.Views.{named-book}
 use Rattle.goods.proofs.Items.{fits-in}
 use Rattle.goods.proofs.named.Named.is_enough_with.Needs as need

@@ -1,3 +1,4 @@
+-- The claims that are still to be looked at tell whether the item is named.
 use mathlib.Core.Path.{sym, ap, _∙_}
 use Rattle.goods.specs.NamedGoods.{names}
 use Rattle.goods.proofs.Items.{names-passed, names-here, names-end}

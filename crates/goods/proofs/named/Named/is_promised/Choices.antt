@@ -1,3 +1,4 @@
+-- The claims that are still to be looked at tell whether the item is named.
 use mathlib.Core.Path.{_≡_}
 use lib.ListN.{drop}
 use Rattle.goods.specs.NamedGoods.{names}

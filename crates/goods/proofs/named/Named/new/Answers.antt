@@ -1,5 +1,6 @@
+-- New named goods have the rules that were asked for and no claims, and their rules keep items apart.
 use mathlib.Core.Path.{ap}
-use Prim.Native.Nat.{ℕ, min, _≤_}
+use Prim.Native.Nat.{min}
 use native.Mathlib.Omega.{arith}
 use Rattle.std.proofs.shelf.Results.{made-from-err}
 use Rattle.goods.specs.NamedGoods.{named}

@@ -1,3 +1,4 @@
+-- A claim goes out with the item that it names, the only unit with which the book stays carried.
 use mathlib.Core.Path.{sym}
 use Rattle.goods.specs.Views.{named-book}
 use Rattle.goods.proofs.Fixed.{goes-out-as}

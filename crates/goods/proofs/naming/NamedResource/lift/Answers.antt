@@ -1,3 +1,4 @@
+-- A lifted claim leaves a book that is carried.
 use mathlib.Core.Path.{sym}
 use Rattle.claims.proofs.Ranks.{rises-says}
 use Rattle.std.proofs.shelf.Results.{err-from-errBy}

@@ -1,3 +1,4 @@
+-- Named goods keep to the laws of every resource.
 use Rattle.claims.proofs.Ranks.{rises-says}
 use Rattle.goods.specs.Views.{named-book}
 use Rattle.goods.proofs.Fixed.{fixed-laws}

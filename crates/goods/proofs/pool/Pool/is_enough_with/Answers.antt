@@ -1,3 +1,4 @@
+-- What is left of a pool's size decides whether one claim more is carried.
 use mathlib.Core.Path.{ap, _∙_}
 use mathlib.Core.Bool.{Bool, _&&_}
 use Prim.Native.Nat.{_-_}

@@ -1,5 +1,6 @@
-use mathlib.Core.Path.{refl, ap}
-use Prim.Native.Nat.{ℕ, min}
+-- A new pool has the rules that were asked for and no claims, and a pool's rules are those of escrow.
+use mathlib.Core.Path.{ap}
+use Prim.Native.Nat.{min}
 use Rattle.claims.specs.Limits.{most-units}
 use Rattle.std.proofs.shelf.Results.{made-from-err}
 use Rattle.goods.specs.Pooled.{pool}

@@ -1,11 +1,9 @@
-use mathlib.Core.Path.{sym, ap, _∙_}
-use mathlib.Core.Bool.{Bool}
+-- A pool takes in what its rules do not refuse, and adds its quantity to the sum.
+use mathlib.Core.Path.{sym, ap}
 use native.Mathlib.Omega.{arith}
 use Rattle.std.proofs.shelf.Results.{err-from-errBy}
 use Rattle.claims.specs.Held.{claims-book}
-use Rattle.claims.specs.Rules.{answered}
 use Rattle.goods.specs.Pooled.{quantities, pool-kind}
-use Rattle.goods.specs.Shelves.{barred}
 use Rattle.goods.specs.Views.{pool-book}
 use Rattle.goods.proofs.Pools.{quantities-insert}
 use Rattle.goods.proofs.Shelving.{Entered, turned-away, falls-short, comes-in}
@@ -15,27 +13,19 @@ use Rattle.goods.proofs.pool.Pool.take_in.Needs.{After-insert}
 pub returns-in-Break-check-entry : need.returns-in-Break-check-entry
 returns-in-Break-check-entry c =
     let s = c .args .self .now in
-    let x = c .args .claim in
-    let b = pool-book s in
     let p = err-from-errBy (c .from-residual .result) (c .from-residual .ensures .1) in
-    rw (p .1, p .2)
-    (turned-away (s .shelf) (pool-kind (s .size)) b x _ (ap (λ (q : Bool). answered (x .key) (barred q b x)) (sym (c .reads .ensures tt)) ∙ sym (c .in-Break-check-entry .ensures tt)))
+    rw (p .1, p .2) (turned-away (s .shelf) (pool-kind (s .size)) (pool-book s) (c .args .claim) _ (c .reads .ensures tt) _ (c .in-Break-check-entry .ensures tt))
 
 pub returns-then-not-is-enough-with : need.returns-then-not-is-enough-with
 returns-then-not-is-enough-with c =
     let s = c .args .self .now in
-    let x = c .args .claim in
-    let b = pool-book s in
-    falls-short (s .shelf) (pool-kind (s .size)) b x (ap (λ (q : Bool). answered (x .key) (barred q b x)) (sym (c .reads .ensures tt)) ∙ sym (c .in-Continue-check-entry .ensures tt)) (sym (c .if-not-is-enough-with .ensures tt))
+    falls-short (s .shelf) (pool-kind (s .size)) (pool-book s) (c .args .claim) _ (c .reads .ensures tt) (c .in-Continue-check-entry .ensures tt) (sym (c .if-not-is-enough-with .ensures tt))
 
 -- the claim that came in
 in-book : (c : need.After-insert) → Entered (c .args .self .now .shelf) (pool-kind (c .args .self .now .size)) (pool-book (c .args .self .now)) (claims-book (c .insert .last .self)) (c .args .claim)
 in-book c =
     let s = c .args .self .now in
-    let x = c .args .claim in
-    let b = pool-book s in
-    comes-in (s .shelf) (pool-kind (s .size)) b (claims-book (c .insert .last .self)) x (s .reads)
-    (ap (λ (q : Bool). answered (x .key) (barred q b x)) (sym (c .reads .ensures tt)) ∙ sym (c .in-Continue-check-entry .ensures tt)) (sym (c .if-not-is-enough-with .ensures tt)) (c .insert .ensures .after)
+    comes-in (s .shelf) (pool-kind (s .size)) (pool-book s) (c .args .claim) _ (c .reads .ensures tt) (claims-book (c .insert .last .self)) (s .reads) (c .in-Continue-check-entry .ensures tt) (sym (c .if-not-is-enough-with .ensures tt)) (c .insert .ensures .after)
 
 pub ghost-self : need.ghost-self
 ghost-self c =

@@ -1,3 +1,4 @@
+-- A pool's claim goes out with 0, the only unit with which the book stays carried.
 use mathlib.Core.Path.{sym, ap, _∙_}
 use Rattle.goods.specs.Pooled.{quantities}
 use Rattle.goods.specs.Views.{pool-book}

@@ -1,5 +1,5 @@
-use mathlib.Core.Path.{sym, ap, _∙_}
-use Prim.Native.Nat.{_+_, _≤_}
+-- A lifted claim gives its quantity back to the pool.
+use mathlib.Core.Path.{sym, ap}
 use native.Mathlib.Omega.{arith}
 use Rattle.claims.specs.Book.{find}
 use Rattle.claims.proofs.Ranks.{rises-says}

@@ -1,3 +1,4 @@
+-- A pool keeps to the laws of every resource.
 use Rattle.claims.proofs.Ranks.{rises-says}
 use Rattle.goods.specs.Views.{pool-book}
 use Rattle.goods.proofs.Fixed.{fixed-laws}
