@@ -1,0 +1,5 @@
+pub mod Openings
+pub mod Outs
+pub mod Sums
+pub mod Wholes
+pub mod Banks
