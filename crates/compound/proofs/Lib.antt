@@ -3,3 +3,4 @@ pub mod Outs
 pub mod Sums
 pub mod Wholes
 pub mod Banks
+pub mod Quotas

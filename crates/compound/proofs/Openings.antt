@@ -23,7 +23,7 @@ use Rattle.claims.specs.Units.{units-of}
 use Rattle.claims.proofs.Books.{none-is}
 use Rattle.resource.specs.declared.Resource.{Ghosts}
 use Rattle.resource.specs.Calls.{Placed, Lifted, Drawn}
-use Rattle.compound.specs.Opened.{opened, open-book, Fresh}
+use Rattle.compound.specs.Opened.{closed, opened, open-book}
 
 -- a resource as it stands between calls
 pub record Standing (r : Rules) (b : Book) : Type 0 where
@@ -109,9 +109,9 @@ opened-carries true r b P h = h
 opened-carries false r b P h = h
 
 -- what is made to be open exactly where nothing is claimed below
-pub fresh : (o : Bool) (below : Book) (meant : Rules) → Decides o (below ≡ []) → Fresh below meant (opened o meant) (open-book o below)
-fresh true below meant h = record { empty = h .0 refl; unclaimed = λ e. refl; claimed = λ n. absurd (n (h .0 refl)) }
-fresh false below meant h = record { empty = refl; unclaimed = λ e. absurd (false≢true (h .1 e)); claimed = λ n. refl }
+pub fresh-rules : (o : Bool) (below : Book) (meant : Rules) → Decides o (below ≡ []) → (open-book o below ≡ []) × (below ≡ [] → opened o meant ≡ meant) × ((below ≡ [] → ⊥) → opened o meant ≡ closed meant)
+fresh-rules true below meant h = (h .0 refl, λ e. refl, λ n. absurd (n (h .0 refl)))
+fresh-rules false below meant h = (refl, λ e. absurd (false≢true (h .1 e)), λ n. refl)
 
 -- a count says whether there are claims
 pub decides-none : (n : ℕ) (b : Book) → n ≡ length b → Decides (eqb n 0) (b ≡ [])

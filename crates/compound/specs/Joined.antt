@@ -44,12 +44,18 @@ pub record Sides (s : ℕ) (a b : Book) : Type 0 where
   pub distinct : apart a b ≡ true
   pub room : length a + length b ≤ most-claims
 
--- the rules, the book and the soundness of a bank
+-- the rules of a bank
 abbrev pub bank-rules : {F S : Type 0} → Ghosts F → Ghosts S → Bank F S → Rules
 bank-rules f t b = opened (b .«open») (joined (b .split) (f .rules (b .first)) (t .rules (b .second)))
 
+-- its book: the claims of both sides
 abbrev pub bank-book : {F S : Type 0} → Ghosts F → Ghosts S → Bank F S → Book
 bank-book f t b = open-book (b .«open») (merge (f .book (b .first)) (t .book (b .second)))
 
+-- what holds of it between calls
 abbrev pub Bank-sound : {F S : Type 0} → Ghosts F → Ghosts S → Bank F S → Type 0
 Bank-sound f t b = f .sound (b .first) × t .sound (b .second) × (b .«open» ≡ true → Sides (b .split) (f .book (b .first)) (t .book (b .second)))
+
+-- a bank as a resource
+abbrev pub bank : {F S : Type 0} → Ghosts F → Ghosts S → Ghosts (Bank F S)
+bank f t = record { rules = bank-rules f t; book = bank-book f t; sound = Bank-sound f t }

@@ -4,12 +4,13 @@ use mathlib.Core.Bool.{Bool, true, false}
 use mathlib.Core.List.{[]}
 use Rattle.claims.specs.Book.{Book}
 use Rattle.claims.specs.Rules.{Rules}
+use Rattle.resource.specs.declared.Resource.{Ghosts}
 
 -- the rules of what reads no demand
 abbrev pub closed : Rules → Rules
 closed r = record { reads = λ d. false; counts = λ d. 0; carries = r .carries; cause = r .cause }
 
--- the rules that are meant, where they are open
+-- the rules that are meant, where it is open
 abbrev pub opened : Bool → Rules → Rules
 opened true r = r
 opened false r = closed r
@@ -19,8 +20,9 @@ abbrev pub open-book : Bool → Book → Book
 open-book true b = b
 open-book false b = []
 
--- what is newly made has an empty book; its rules are as meant where nothing is claimed below, and else closed
-pub record Fresh (below : Book) (meant : Rules) (r : Rules) (b : Book) : Type 0 where
-  pub empty : b ≡ []
-  pub unclaimed : below ≡ [] → r ≡ meant
-  pub claimed : (below ≡ [] → ⊥) → r ≡ closed meant
+-- what is newly made is sound and has no claims; its rules are as meant where nothing is claimed below, else closed
+pub record Fresh {R : Type 0} (m : Ghosts R) (below : Book) (meant : Rules) (s : R) : Type 0 where
+  pub sound : m .sound s
+  pub empty : m .book s ≡ []
+  pub unclaimed : below ≡ [] → m .rules s ≡ meant
+  pub claimed : (below ≡ [] → ⊥) → m .rules s ≡ closed meant

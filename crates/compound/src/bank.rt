@@ -1,8 +1,8 @@
 ghost use mathlib.Core.Path.{_≡_};
 ghost use Rattle.claims.specs.Book.{Book, merge};
-ghost use Rattle.compound.specs.Joined.{Carried-by-both, bank-book, bank-rules, Bank-sound, joined};
+ghost use Rattle.compound.specs.Joined.{bank, bank-book, bank-rules, Bank-sound, Carried-by-both, joined};
 ghost use Rattle.compound.specs.Opened.{Fresh};
-ghost use Rattle.resource.specs.Calls.{Placed};
+ghost use Rattle.compound.specs.Taking.{Takes};
 ghost use Rattle.std.specs.Orderings.{Decides};
 use crate::taking::hand_on;
 use claims::Cause;
@@ -30,8 +30,7 @@ impl<F: Resource, S: Resource> Bank<F, S> {
     // Joins two resources that have no claims; over claims the bank stays closed.
     pub fn new(first: F, second: S, split: u32) -> Bank<F, S>
         ensures parts { λ r. ⌜ r .first ≡ first ⌝ ∗ ⌜ r .second ≡ second ⌝ ∗ ⌜ r .split ≡ split ⌝ }
-        ensures sound { λ r. ⌜ (F·Resource .sound first → S·Resource .sound second → Bank-sound F·Resource S·Resource r) ⌝ }
-        ensures fresh { λ r. ⌜ (F·Resource .sound first → S·Resource .sound second → Fresh (merge (F·Resource .book first) (S·Resource .book second)) (joined split (F·Resource .rules first) (S·Resource .rules second)) (bank-rules F·Resource S·Resource r) (bank-book F·Resource S·Resource r)) ⌝ }
+        ensures fresh { λ r. ⌜ (F·Resource .sound first → S·Resource .sound second → Fresh (bank F·Resource S·Resource) (merge (F·Resource .book first) (S·Resource .book second)) (joined split (F·Resource .rules first) (S·Resource .rules second)) r) ⌝ }
         ensures carries { λ r. ⌜ ((b : Book) → Decides (bank-rules F·Resource S·Resource r .carries b) (Carried-by-both split (F·Resource .rules first) (S·Resource .rules second) b)) ⌝ }
     {
         let open = (first.count() == 0) & (second.count() == 0);
@@ -45,8 +44,7 @@ impl<F: Resource, S: Resource> Bank<F, S> {
 
     // Takes in a claim that waits or is out, or says why not.
     fn take_in(&mut self, claim: Claim) -> Result<(), Fault>
-        ensures kept { λ _. ⌜ (Bank-sound F·Resource S·Resource (now (self .entry)) → Bank-sound F·Resource S·Resource (now (self .exit))) ⌝ }
-        ensures placed { λ r. ⌜ (Bank-sound F·Resource S·Resource (now (self .entry)) → Placed claim (bank-rules F·Resource S·Resource (now (self .entry))) (bank-book F·Resource S·Resource (now (self .entry))) r (bank-rules F·Resource S·Resource (now (self .exit))) (bank-book F·Resource S·Resource (now (self .exit)))) ⌝ }
+        ensures { λ r. ⌜ Takes (bank F·Resource S·Resource) claim (now (self .entry)) r (now (self .exit)) ⌝ }
     {
         let key = claim.key;
         if !(claim.party.is_known() & self.reads(claim.demand)) {

@@ -4,7 +4,7 @@ use Rattle.std.proofs.shelf.Tests.{and-parts}
 use lib.Dec.{eqb}
 use Rattle.claims.specs.Book.{merge}
 use Rattle.compound.specs.Joined.{joined, Carried-by-both}
-use Rattle.compound.proofs.Openings.{decides-none, fresh, opened-carries}
+use Rattle.compound.proofs.Openings.{decides-none, fresh-rules, opened-carries}
 use Rattle.compound.proofs.Banks.{joined-carries, decides-neither, sides-none}
 use Rattle.compound.proofs.bank.Bank.new.Needs as need
 
@@ -20,7 +20,13 @@ returns g c =
     let right = λ (h : g .S·Resource .sound (c .args .second)). decides-none (c .count-2 .result) b (c .count-2 .ensures h) in
     record {
       parts = (refl, (refl, refl));
-      sound = λ h k. (h, k, λ o. let e = and-parts m n o in sides-none (c .args .split) a b (left h .0 (e .0)) (right k .0 (e .1)));
-      fresh = λ h k. fresh _ (merge a b) (joined (c .args .split) p q) (decides-neither m n a b (left h) (right k));
+      fresh = λ h k.
+          let made = fresh-rules _ (merge a b) (joined (c .args .split) p q) (decides-neither m n a b (left h) (right k)) in
+          record {
+            sound = (h, k, λ o. let e = and-parts m n o in sides-none (c .args .split) a b (left h .0 (e .0)) (right k .0 (e .1)));
+            empty = made .0;
+            unclaimed = made .1;
+            claimed = made .2;
+          };
       carries = λ z. opened-carries _ (joined (c .args .split) p q) z (Carried-by-both (c .args .split) p q z) (joined-carries (c .args .split) p q z);
     }
