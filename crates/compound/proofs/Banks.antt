@@ -1,91 +1,34 @@
 -- What holds of two resources together, from what holds of each.
 use mathlib.Core.Path.{_≡_, refl, sym, ap, subst, _∙_}
-use mathlib.Core.Bool.{Bool, true, false, cond, not, _&&_, and-true}
-use mathlib.Core.List.{List, [], _∷_}
-use mathlib.Core.Logic.{⊎-elim}
-use Prim.Native.Nat.{ℕ, zero, suc, _+_, _*_, _<_, _≤_}
+use mathlib.Core.Bool.{Bool, true, false, not, _&&_, and-true}
+use Prim.Native.Nat.{ℕ, _+_, _*_, _<_, _≤_}
 use native.Mathlib.Omega.{arith}
 use lib.Dec.{leb}
 use lib.ListN.{length}
 use Rattle.std.specs.Options.{isSome}
-use Rattle.std.specs.Orderings.{Decides}
 use Rattle.std.specs.declared.option.Option.{Option}
 use Rattle.std.specs.declared.option.Option.the-variants.{Some, None}
 use Rattle.std.specs.declared.result.Result.{Result}
-use Rattle.std.proofs.shelf.Tests.{cases-bool, cond-true, cond-false, leb-true, le-leb, lt-leb, and-parts, and-from, not-true}
-use Rattle.std.proofs.shelf.Ways.{decides-and, decides-like}
+use Rattle.std.proofs.shelf.Tests.{cond-true, cond-false, le-leb, not-true}
 use Rattle.claims.specs.declared.Cause.{Cause}
-use Rattle.claims.specs.declared.Cause.the-variants.{TooManyClaims}
 use Rattle.claims.specs.declared.Claim.{Claim}
 use Rattle.claims.specs.declared.ClaimKey.{ClaimKey}
 use Rattle.claims.specs.declared.Fault.{Fault}
 use Rattle.claims.specs.declared.ItemNumber.{ItemNumber}
-use Rattle.claims.specs.Book.{Book, key-of, find, insert, without, out, Rising, kept, every, apart, merge}
-use Rattle.claims.specs.Limits.{most-claims, last-shelf, most-units}
-use Rattle.claims.specs.Rules.{Rules, Laws, readable, is-party, refusal, answered, added, lifted}
+use Rattle.claims.specs.Book.{Book, key-of, find, insert, out, Rising, kept, every, merge}
+use Rattle.claims.specs.Limits.{most-claims, most-units}
+use Rattle.claims.specs.Rules.{Rules, readable, is-party, refusal, added}
 use Rattle.claims.specs.Units.{units-of}
-use Rattle.claims.proofs.Books.{rising-kept, rising-merge, rising-out, length-without, length-out, length-insert, length-merge, kept-without, kept-out, out-absent, find-kept-in, find-kept-out, kept-merge-first, kept-merge-second, kept-insert-in, kept-insert-out, find-merge-none, every-insert, every-without, apart-insert-first, apart-insert-second, apart-without-first, apart-without-second, merge-insert-first, merge-insert-second, merge-without-first, merge-without-second, merge-out-first, merge-out-second, find-merge-first, find-apart, some-is, none-is, every-merge, every-from}
-use Rattle.resource.specs.Calls.{Placed, Lifted, Drawn, kept-in, unit-or, gone-out}
-use Rattle.resource.specs.Draws.{least-from, drawn}
+use Rattle.claims.proofs.Books.{rising-merge, length-out, length-insert, length-merge, kept-out, out-absent, kept-merge-first, kept-merge-second, kept-insert-in, kept-insert-out, find-merge-none, every-insert, apart-insert-first, apart-insert-second, merge-insert-first, merge-insert-second, merge-without-first, merge-without-second, merge-out-first, merge-out-second, find-merge-first, find-apart, some-is, every-merge, every-from}
+use Rattle.resource.specs.Calls.{Placed, Lifted, Drawn}
+use Rattle.resource.specs.Draws.{drawn}
 use Rattle.resource.specs.declared.Resource.{Ghosts}
 use Rattle.compound.specs.declared.bank.Bank.{Bank}
-use Rattle.compound.specs.Joined.{low, high, joined, Carried-by-both, Sides, Bank-sound, bank-rules, bank-book}
-use Rattle.compound.proofs.Openings.{Standing, opened-stands}
-use Rattle.compound.proofs.Outs.{every-out, apart-out-first, apart-out-second}
+use Rattle.compound.specs.Joined.{low, high, joined, Sides, Bank-sound}
+use Rattle.compound.proofs.Openings.{Standing}
 use Rattle.compound.proofs.Sums.{units-merge, units-agree, units-few}
 use Rattle.compound.proofs.Wholes.{drawn-like, placed-whole, lifted-whole, drawn-whole}
-
--- which books the two carry
-pub joined-carries : (s : ℕ) (p q : Rules) (b : Book) → Decides (joined s p q .carries b) (Carried-by-both s p q b)
-joined-carries s p q b = (
-  λ h.
-      let x = and-parts (leb (length b) most-claims) (p .carries (kept (low s) b) && q .carries (kept (high s) b)) h in
-      let y = and-parts (p .carries (kept (low s) b)) (q .carries (kept (high s) b)) (x .1) in
-      record { few = leb-true (length b) most-claims (x .0); first = y .0; second = y .1 },
-  λ h.
-      and-from (leb (length b) most-claims) (p .carries (kept (low s) b) && q .carries (kept (high s) b)) (le-leb (length b) most-claims (h .few))
-      (and-from (p .carries (kept (low s) b)) (q .carries (kept (high s) b)) (h .first) (h .second)),
-)
-
-pub joined-laws : (s : ℕ) (p q : Rules) → Laws p → Laws q → Laws (joined s p q)
-joined-laws s p q lp lq = record {
-  empty = joined-carries s p q [] .1 (record { few = omega arith; first = lp .empty; second = lq .empty });
-  fewer = λ b k r h.
-      let c = joined-carries s p q b .0 h in
-      let n = length-without k b in
-      joined-carries s p q (without k b) .1 (record {
-        few = omega arith;
-        first = ap (p .carries) (kept-without (low s) k b r) ∙ lp .fewer (kept (low s) b) k (rising-kept (low s) b r) (c .first);
-        second = ap (q .carries) (kept-without (high s) k b r) ∙ lq .fewer (kept (high s) b) k (rising-kept (high s) b r) (c .second);
-      });
-  goes = λ b k x r h f w.
-      let c = joined-carries s p q b .0 h in
-      let gone = λ (u : ℕ) (y : p .carries (out k u (kept (low s) b)) ≡ true) (z : q .carries (out k u (kept (high s) b)) ≡ true). (
-      let n = length-out k u b in
-      joined-carries s p q (out k u b) .1 (record {
-        few = omega arith;
-        first = ap (p .carries) (kept-out (low s) (λ v y. refl) k u b r) ∙ y;
-        second = ap (q .carries) (kept-out (high s) (λ v y. refl) k u b r) ∙ z;
-      })) in
-      ⊎-elim
-      (λ (t : low s x ≡ true).
-      let g = lp .goes (kept (low s) b) k x (rising-kept (low s) b r) (c .first) (find-kept-in (low s) k x b f t) w in
-      (g .0, gone (g .0) (g .1) (ap (q .carries) (out-absent k (g .0) (kept (high s) b) (find-kept-out (high s) k x b r f (ap not t))) ∙ c .second)))
-      (λ (t : low s x ≡ false).
-      let g = lq .goes (kept (high s) b) k x (rising-kept (high s) b r) (c .second) (find-kept-in (high s) k x b f (ap not t)) w in
-      (g .0, gone (g .0) (ap (p .carries) (out-absent k (g .0) (kept (low s) b) (find-kept-out (low s) k x b r f t)) ∙ c .first) (g .1)))
-      (cases-bool (low s x));
-  few = λ b r h. joined-carries s p q b .0 h .few;
-  small = λ b k x i r h f o.
-      let c = joined-carries s p q b .0 h in
-      ⊎-elim
-      (λ (t : low s x ≡ true). lp .small (kept (low s) b) k x i (rising-kept (low s) b r) (c .first) (find-kept-in (low s) k x b f t) o)
-      (λ (t : low s x ≡ false). lq .small (kept (high s) b) k x i (rising-kept (high s) b r) (c .second) (find-kept-in (high s) k x b f (ap not t)) o)
-      (cases-bool (low s x));
-  shelves = λ d. elim (leb (d .shelf) s) as (λ t. cond t (p .reads d) (q .reads d) ≡ true → (1 ≤ d .shelf) × (d .shelf ≤ last-shelf)) [ true ↦ lp .shelves d | false ↦ lq .shelves d ];
-  amounts = λ d. elim (leb (d .shelf) s) as (λ t. cond t (p .reads d) (q .reads d) ≡ true → (1 ≤ cond t (p .counts d) (q .counts d)) × (cond t (p .counts d) (q .counts d) ≤ most-units)) [ true ↦ lp .amounts d | false ↦ lq .amounts d ];
-  nothing = λ d. elim (leb (d .shelf) s) as (λ t. cond t (p .reads d) (q .reads d) ≡ false → cond t (p .counts d) (q .counts d) ≡ 0) [ true ↦ lp .nothing d | false ↦ lq .nothing d ];
-}
+use Rattle.compound.proofs.Joins.{joined-carries, joined-laws}
 
 -- two sides as they stand between calls
 pub record Joint (s : ℕ) (p q : Rules) (a b : Book) : Type 0 where
@@ -136,7 +79,7 @@ module _ {s : ℕ} {p q : Rules} {a b : Book} (j : Joint s p q a b) where
       omega arith
 
   -- the claim under a key stands on one side alone
-  pub first-has : (k : ℕ) → isSome (find a k) ≡ true → (find (merge a b) k ≡ find a k) × (find b k ≡ None)
+  first-has : (k : ℕ) → isSome (find a k) ≡ true → (find (merge a b) k ≡ find a k) × (find b k ≡ None)
   first-has k h =
       let x = some-is (find a k) h in
       (find-merge-first k (x .0) a b (j .left .rising) (j .sides .distinct) (x .1) ∙ sym (x .1), find-apart k (x .0) a b (j .sides .distinct) (x .1))
@@ -252,57 +195,6 @@ module _ {s : ℕ} {p q : Rules} {a b : Book} (j : Joint s p q a b) where
         go None = record { lows = j .sides .lows; highs = every-insert (high s) x b (ap not t) (j .sides .highs); distinct = apart-insert-second x a b (lack .0) (j .sides .distinct); room = omega (arith, length-insert x b, length-merge a b) }
         go (Some z) = j .sides
 
--- no room in the whole
-pub refusal-full : (s : ℕ) (p q : Rules) (m : Book) (x : Claim) → (is-party (x .party) && joined s p q .reads (x .demand)) ≡ true → find m (key-of x) ≡ None → most-claims ≤ length m → refusal (joined s p q) m x ≡ Some TooManyClaims
-refusal-full s p q m x r n full =
-    let over : leb (length (insert x m)) most-claims ≡ false = lt-leb (length (insert x m)) most-claims (omega (arith, length-insert x m)) in
-    simp (r, n, over)
-
--- what a call to one side leaves
-module _ {s : ℕ} {a b : Book} (h : Sides s a b) where
-  pub sides-lifted-first : {k : ClaimKey} {y : Result (Unit {0}) Fault} {p p′ : Rules} {a′ : Book} → Lifted k p a y p′ a′ → Sides s a′ b
-  sides-lifted-first {k} d =
-      let r = h .room in
-      subst (λ (z : Book). Sides s z b) (sym (d .after)) (record { lows = every-without (low s) (k .0) a (h .lows); highs = h .highs; distinct = apart-without-first (k .0) a b (h .distinct); room = omega (arith, length-without (k .0) a) })
-
-  pub sides-lifted-second : {k : ClaimKey} {y : Result (Unit {0}) Fault} {q q′ : Rules} {b′ : Book} → Lifted k q b y q′ b′ → Sides s a b′
-  sides-lifted-second {k} d =
-      let r = h .room in
-      subst (λ (z : Book). Sides s a z) (sym (d .after)) (record { lows = h .lows; highs = every-without (high s) (k .0) b (h .highs); distinct = apart-without-second (k .0) a b (h .distinct); room = omega (arith, length-without (k .0) b) })
-
-  pub sides-drawn-first : {k : ClaimKey} {y : Result ItemNumber Fault} {p p′ : Rules} {a′ : Book} → Drawn k p a y p′ a′ → Sides s a′ b
-  sides-drawn-first {k} {p} d = subst (λ (z : Book). Sides s z b) (sym (d .after)) (go (drawn p a (k .0)) (kept-in (find a (k .0))))
-    where
-      go : (u : ℕ) (o : Option Cause) → Sides s (gone-out k u a o) b
-      go u None =
-          let r = h .room in
-          record { lows = every-out (low s) (λ v c. refl) (k .0) u a ∙ h .lows; highs = h .highs; distinct = apart-out-first (k .0) u a b ∙ h .distinct; room = omega (arith, length-out (k .0) u a) }
-      go u (Some z) = h
-
-  pub sides-drawn-second : {k : ClaimKey} {y : Result ItemNumber Fault} {q q′ : Rules} {b′ : Book} → Drawn k q b y q′ b′ → Sides s a b′
-  sides-drawn-second {k} {q} d = subst (λ (z : Book). Sides s a z) (sym (d .after)) (go (drawn q b (k .0)) (kept-in (find b (k .0))))
-    where
-      go : (u : ℕ) (o : Option Cause) → Sides s a (gone-out k u b o)
-      go u None =
-          let r = h .room in
-          record { lows = h .lows; highs = every-out (high s) (λ v c. refl) (k .0) u b ∙ h .highs; distinct = apart-out-second (k .0) u a b ∙ h .distinct; room = omega (arith, length-out (k .0) u b) }
-      go u (Some z) = h
-
 -- a sound bank that is open
 pub joint : {F S : Type 0} (f : Ghosts F) (t : Ghosts S) → ((x : F) → f .sound x → Standing (f .rules x) (f .book x)) → ((x : S) → t .sound x → Standing (t .rules x) (t .book x)) → (v : Bank F S) → Bank-sound f t v → v .«open» ≡ true → Joint (v .split) (f .rules (v .first)) (t .rules (v .second)) (f .book (v .first)) (t .book (v .second))
 joint f t l r v h is = record { left = l (v .first) (h .0); right = r (v .second) (h .1); sides = h .2 is }
-
--- two sides that both have no claims, and only those, are together without claims
-pub decides-neither : (x y : Bool) (a b : Book) → Decides x (a ≡ []) → Decides y (b ≡ []) → Decides (x && y) (merge a b ≡ [])
-decides-neither x y a b p q =
-    decides-like (x && y)
-    (λ h. ap (λ (z : Book). merge z b) (h .0) ∙ h .1)
-    (λ h. let n : length (merge a b) ≡ 0 = ap length h in let m = length-merge a b in (none-of a (omega arith), none-of b (omega arith)))
-    (decides-and x y p q)
-  where
-    none-of : (c : Book) → length c ≡ 0 → c ≡ []
-    none-of [] e = refl
-    none-of (z ∷ c) e = absurd (omega arith)
-
-pub sides-none : (s : ℕ) (a b : Book) → a ≡ [] → b ≡ [] → Sides s a b
-sides-none s a b e f = subst (λ (z : Book). Sides s z b) (sym e) (subst (λ (z : Book). Sides s [] z) (sym f) (record { lows = refl; highs = refl; distinct = refl; room = omega arith }))

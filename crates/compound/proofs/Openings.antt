@@ -58,7 +58,7 @@ pub book-open : (o : Bool) (b : Book) → o ≡ true → open-book o b ≡ b
 book-open true b e = refl
 book-open false b e = absurd (false≢true e)
 
-pub rules-open : (o : Bool) (r : Rules) → o ≡ true → opened o r ≡ r
+rules-open : (o : Bool) (r : Rules) → o ≡ true → opened o r ≡ r
 rules-open true r e = refl
 rules-open false r e = absurd (false≢true e)
 
@@ -73,7 +73,7 @@ pub fewer-open : (o : Bool) (b : Book) {n most : ℕ} → o ≡ true → n ≡ l
 fewer-open o b is e l = let f = ap length (book-open o b is) in omega arith
 
 -- what reads a demand is open
-pub read-open : (o : Bool) (r : Rules) (d : Demand) → opened o r .reads d ≡ true → o ≡ true
+read-open : (o : Bool) (r : Rules) (d : Demand) → opened o r .reads d ≡ true → o ≡ true
 read-open true r d e = refl
 read-open false r d e = absurd (false≢true e)
 

@@ -1,11 +1,11 @@
 -- What stays as it is where a claim of a book goes out.
-use mathlib.Core.Path.{_≡_, refl, sym, ap, _∙_}
+use mathlib.Core.Path.{_≡_, refl, ap, _∙_}
 use mathlib.Core.Bool.{Bool, true, false, cond, not, _&&_}
 use mathlib.Core.List.{[], _∷_}
 use Prim.Native.Nat.{ℕ}
 use lib.Dec.{eqb}
 use Rattle.std.specs.Options.{isSome}
-use Rattle.std.specs.declared.option.Option.the-variants.{Some, None}
+use Rattle.std.specs.declared.option.Option.the-variants.{Some}
 use Rattle.std.proofs.shelf.Tests.{cond-both}
 use Rattle.claims.specs.declared.Claim.{Claim}
 use Rattle.claims.specs.Book.{Book, key-of, find, sent, out, every, apart}
@@ -17,7 +17,7 @@ every-out t h k u (c ∷ b) =
     (λ e. ap (λ v. v && every t b) (h u c))
     (λ e. ap (λ v. t c && v) (every-out t h k u b))
 
-pub held-out : (j k u : ℕ) (b : Book) → isSome (find (out k u b) j) ≡ isSome (find b j)
+held-out : (j k u : ℕ) (b : Book) → isSome (find (out k u b) j) ≡ isSome (find b j)
 held-out j k u [] = refl
 held-out j k u (c ∷ b) =
     cond-both (eqb (key-of c) k) (sent u c ∷ b) (c ∷ out k u b) (λ r. isSome (find r j) ≡ isSome (find (c ∷ b) j))

@@ -1,12 +1,11 @@
 -- What holds of a resource under limits, from what holds of it without them.
-use mathlib.Core.Path.{_≡_, refl, sym, ap, subst, _∙_}
-use mathlib.Core.Bool.{Bool, true, false, cond, _&&_}
+use mathlib.Core.Path.{_≡_, refl, sym, ap, subst}
+use mathlib.Core.Bool.{true, false, _&&_}
 use mathlib.Core.List.{List, []}
 use mathlib.Core.Logic.{⊎-elim}
-use Prim.Native.Nat.{ℕ, suc, _+_, _-_, _*_, _<_, _≤_, min}
+use Prim.Native.Nat.{ℕ, suc, _+_, _-_, _<_, _≤_, min}
 use native.Mathlib.Omega.{arith}
 use lib.Dec.{eqb, leb}
-use lib.ListN.{length}
 use Rattle.std.specs.Orderings.{Decides}
 use Rattle.std.specs.declared.option.Option.{Option}
 use Rattle.std.specs.declared.option.Option.the-variants.{Some, None}
@@ -21,10 +20,9 @@ use Rattle.claims.specs.declared.Demand.{Demand}
 use Rattle.claims.specs.declared.Fault.{Fault}
 use Rattle.claims.specs.declared.ItemNumber.{ItemNumber}
 use Rattle.claims.specs.Book.{Book, key-of, find, insert, without, out}
-use Rattle.claims.specs.Limits.{last-party, most-claims, most-units}
+use Rattle.claims.specs.Limits.{last-party}
 use Rattle.claims.specs.Rules.{Rules, Laws, is-party, refusal, added}
 use Rattle.claims.specs.Units.{share, units-of}
-use Rattle.resource.specs.declared.Resource.{Ghosts}
 use Rattle.resource.specs.Calls.{Placed, Lifted, Drawn, kept-in, gone-out}
 use Rattle.resource.specs.Draws.{drawn}
 use Rattle.resource.proofs.Refusals.{refused}
@@ -34,7 +32,7 @@ use Rattle.compound.proofs.Sums.{units-insert, units-without, units-out, units
 use Rattle.compound.proofs.Wholes.{drawn-like, placed-whole, lifted-whole, drawn-whole}
 
 -- the test of the limits says what it should
-pub within-decides : (limits : List ℕ) (counts : Demand → ℕ) (b : Book) → Decides (within limits counts b last-party) (Keeps-limits limits counts b)
+within-decides : (limits : List ℕ) (counts : Demand → ℕ) (b : Book) → Decides (within limits counts b last-party) (Keeps-limits limits counts b)
 unfolding within
 within-decides limits counts b =
     decides-like (within limits counts b last-party)
@@ -50,10 +48,10 @@ limited-carries limits r b =
     (decides-and (within limits (r .counts) b last-party) (r .carries b) (within-decides limits (r .counts) b) ((λ e. e, λ e. e)))
 
 -- fewer claims, and claims that go out, keep the limits
-pub keeps-without : (limits : List ℕ) (counts : Demand → ℕ) (k : ℕ) (b : Book) → Keeps-limits limits counts b → Keeps-limits limits counts (without k b)
+keeps-without : (limits : List ℕ) (counts : Demand → ℕ) (k : ℕ) (b : Book) → Keeps-limits limits counts b → Keeps-limits limits counts (without k b)
 keeps-without limits counts k b h p low high = let n = units-without counts p k b in let m = h p low high in omega arith
 
-pub keeps-out : (limits : List ℕ) (counts : Demand → ℕ) (k u : ℕ) (b : Book) → Keeps-limits limits counts b → Keeps-limits limits counts (out k u b)
+keeps-out : (limits : List ℕ) (counts : Demand → ℕ) (k u : ℕ) (b : Book) → Keeps-limits limits counts b → Keeps-limits limits counts (out k u b)
 keeps-out limits counts k u b h p low high = let n = units-out counts p k u b in let m = h p low high in omega arith
 
 pub limited-laws : (limits : List ℕ) (r : Rules) → Laws r → Laws (limited limits r)
@@ -127,7 +125,7 @@ module _ (limits : List ℕ) (r : Rules) (b : Book) (x : Claim) where
       (cond-false (within limits (r .counts) (insert x b) last-party) (r .cause (insert x b)) OverLimit past)
 
   -- a claim with which all keep their limits is refused as below
-  pub refusal-below : Keeps-limits limits (r .counts) (insert x b) → refusal (limited limits r) b x ≡ refusal r b x
+  refusal-below : Keeps-limits limits (r .counts) (insert x b) → refusal (limited limits r) b x ≡ refusal r b x
   refusal-below h = let w = within-decides limits (r .counts) (insert x b) .1 h in simp w
 
   pub placed-below : {y : Result (Unit {0}) Fault} {r′ : Rules} {b′ : Book} → Keeps-limits limits (r .counts) (insert x b) → Placed x r b y r′ b′ → Placed x (limited limits r) b y (limited limits r′) b′

@@ -1,12 +1,12 @@
 -- The units of a party: how a call changes them, and how many they can be.
-use mathlib.Core.Path.{_≡_, refl, sym, ap, _∙_}
+use mathlib.Core.Path.{_≡_, refl, ap}
 use mathlib.Core.Bool.{Bool, true, false, cond}
 use mathlib.Core.List.{[], _∷_}
 use Prim.Native.Nat.{ℕ, _+_, _*_, _≤_}
 use native.Mathlib.Omega.{arith}
 use lib.Dec.{eqb, ltb}
 use lib.ListN.{length}
-use Rattle.std.proofs.shelf.Tests.{cond-both, cond-true, cond-false, and-parts}
+use Rattle.std.proofs.shelf.Tests.{cond-both, and-parts}
 use Rattle.claims.specs.declared.Claim.{Claim}
 use Rattle.claims.specs.declared.Demand.{Demand}
 use Rattle.claims.specs.Book.{Book, key-of, insert, without, sent, out, every, merge}

@@ -1,6 +1,6 @@
 -- A call that a part of a whole answers, where the part answers as the whole would.
 use mathlib.Core.Path.{_≡_, refl, sym, ap, _∙_, fun-ext}
-use mathlib.Core.Bool.{Bool, true, false, cond, _&&_}
+use mathlib.Core.Bool.{Bool}
 use Prim.Native.Nat.{ℕ, suc}
 use Rattle.std.specs.declared.option.Option.{Option}
 use Rattle.std.specs.declared.option.Option.the-variants.{Some, None}
@@ -11,7 +11,7 @@ use Rattle.claims.specs.declared.Claim.{Claim}
 use Rattle.claims.specs.declared.ClaimKey.{ClaimKey}
 use Rattle.claims.specs.declared.Fault.{Fault}
 use Rattle.claims.specs.declared.ItemNumber.{ItemNumber}
-use Rattle.claims.specs.Book.{Book, key-of, find, insert, without, out}
+use Rattle.claims.specs.Book.{Book, find, insert, without, out}
 use Rattle.claims.specs.Limits.{last-unit}
 use Rattle.claims.specs.Rules.{Rules, refusal, answered, added, lifted}
 use Rattle.resource.specs.Calls.{Placed, Lifted, Drawn, kept-in, unit-or, gone-out}

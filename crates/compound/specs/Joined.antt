@@ -1,11 +1,10 @@
 -- What two resources mean together, where the shelf of a claim says which of them takes it.
 use mathlib.Core.Path.{_≡_}
-use mathlib.Core.Bool.{Bool, true, false, cond, not, _&&_}
+use mathlib.Core.Bool.{Bool, true, cond, not, _&&_}
 use Prim.Native.Nat.{ℕ, _+_, _≤_}
 use lib.Dec.{leb}
 use lib.ListN.{length}
 use Rattle.claims.specs.declared.Claim.{Claim}
-use Rattle.claims.specs.declared.Demand.{Demand}
 use Rattle.claims.specs.declared.Cause.the-variants.{TooManyClaims}
 use Rattle.claims.specs.Book.{Book, kept, every, apart, merge}
 use Rattle.claims.specs.Limits.{most-claims}

@@ -141,37 +141,38 @@ pub impl<R: Resource> Resource for Quota<R> as QuotaResource {
     }
 
     fn claim(&self, key: ClaimKey) -> Option<Claim> {
-        if !self.open {
-            return None;
+        if self.open {
+            self.below.claim(key)
+        } else {
+            None
         }
-        self.below.claim(key)
     }
 
     fn count(&self) -> usize {
-        if !self.open {
-            return 0;
-        }
-        self.below.count()
+        if self.open { self.below.count() } else { 0 }
     }
 
     fn reads(&self, demand: Demand) -> bool {
-        if !self.open {
-            return false;
+        if self.open {
+            self.below.reads(demand)
+        } else {
+            false
         }
-        self.below.reads(demand)
     }
 
     fn units(&self, demand: Demand) -> usize {
-        if !self.open {
-            return 0;
+        if self.open {
+            self.below.units(demand)
+        } else {
+            0
         }
-        self.below.units(demand)
     }
 
     fn party_units(&self, party: Party) -> usize {
-        if !self.open {
-            return 0;
+        if self.open {
+            self.below.party_units(party)
+        } else {
+            0
         }
-        self.below.party_units(party)
     }
 }

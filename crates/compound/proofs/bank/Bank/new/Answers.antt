@@ -5,7 +5,8 @@ use lib.Dec.{eqb}
 use Rattle.claims.specs.Book.{merge}
 use Rattle.compound.specs.Joined.{joined, Carried-by-both}
 use Rattle.compound.proofs.Openings.{decides-none, fresh-rules, opened-carries}
-use Rattle.compound.proofs.Banks.{joined-carries, decides-neither, sides-none}
+use Rattle.compound.proofs.Joins.{joined-carries, decides-neither}
+use Rattle.compound.proofs.Sides.{sides-none}
 use Rattle.compound.proofs.bank.Bank.new.Needs as need
 
 pub returns : need.returns

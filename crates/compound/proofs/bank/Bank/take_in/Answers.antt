@@ -1,7 +1,7 @@
 -- The side that takes the claim answers as the bank would.
 use mathlib.Core.Path.{_≡_, ap}
 use mathlib.Core.Bool.{true, false}
-use Prim.Native.Nat.{_<_, _≤_}
+use Prim.Native.Nat.{_≤_}
 use native.Mathlib.Omega.{arith}
 use lib.ListN.{length}
 use Rattle.std.proofs.shelf.Tests.{le-leb, lt-leb}
@@ -11,7 +11,8 @@ use Rattle.claims.specs.Limits.{most-claims}
 use Rattle.compound.specs.Joined.{joined, low, Bank-sound}
 use Rattle.compound.proofs.Openings.{standing, book-open, asked, fewer-open, placed-open}
 use Rattle.compound.proofs.Wholes.{placed-not}
-use Rattle.compound.proofs.Banks.{joint, refusal-full, placed-low, placed-high, sides-low, sides-high}
+use Rattle.compound.proofs.Joins.{refusal-full}
+use Rattle.compound.proofs.Banks.{joint, placed-low, placed-high, sides-low, sides-high}
 use Rattle.compound.proofs.bank.Bank.take_in.Needs as need
 
 pub returns-then-count-ge-MOST-CLAIMS : need.returns-then-count-ge-MOST-CLAIMS
@@ -39,11 +40,12 @@ returns-then-claim-self g c =
     let m = merge (g .F·Resource .book (s .first)) (g .S·Resource .book (s .second)) in
     let q = λ (h : Bank-sound (g .F·Resource) (g .S·Resource) s). asked (s .«open») r m x (c .is-known .ensures) (c .reads .ensures h) (c .if-not-is-known-reads .left) (c .claim .ensures h) (c .if-is-some .ensures tt) in
     let room = λ (h : Bank-sound (g .F·Resource) (g .S·Resource) s). fewer-open (s .«open») m (q h .is-open) (c .count .ensures h) (c .if-count-ge-MOST-CLAIMS .left) in
+    let j = λ (h : Bank-sound (g .F·Resource) (g .S·Resource) s). joint (g .F·Resource) (g .S·Resource) (standing (g .F·Resource) (f .lawful) (f .rising) (f .carried) (f .read)) (standing (g .S·Resource) (t .lawful) (t .rising) (t .carried) (t .read)) s h (q h .is-open) in
     let l : low (s .split) x ≡ true = le-leb (x .demand .shelf) (s .split) (c .if-claim-self .taken) in
     let d = c .hand-on .ensures in
     record {
-      kept = λ h. (d .kept (h .0), h .1, λ o. sides-low (joint (g .F·Resource) (g .S·Resource) (standing (g .F·Resource) (f .lawful) (f .rising) (f .carried) (f .read)) (standing (g .S·Resource) (t .lawful) (t .rising) (t .carried) (t .read)) s h o) x (q h .new) (room h) l (d .placed (h .0)));
-      placed = λ h. placed-open (s .«open») (q h .is-open) (placed-low (joint (g .F·Resource) (g .S·Resource) (standing (g .F·Resource) (f .lawful) (f .rising) (f .carried) (f .read)) (standing (g .S·Resource) (t .lawful) (t .rising) (t .carried) (t .read)) s h (q h .is-open)) x (q h .new) (room h) l (d .placed (h .0)));
+      kept = λ h. (d .kept (h .0), h .1, λ o. sides-low (j h) x (q h .new) (room h) l (d .placed (h .0)));
+      placed = λ h. placed-open (s .«open») (q h .is-open) (placed-low (j h) x (q h .new) (room h) l (d .placed (h .0)));
     }
 
 pub returns-else-claim-self : need.returns-else-claim-self
@@ -56,9 +58,10 @@ returns-else-claim-self g c =
     let m = merge (g .F·Resource .book (s .first)) (g .S·Resource .book (s .second)) in
     let q = λ (h : Bank-sound (g .F·Resource) (g .S·Resource) s). asked (s .«open») r m x (c .is-known .ensures) (c .reads .ensures h) (c .if-not-is-known-reads .left) (c .claim .ensures h) (c .if-is-some .ensures tt) in
     let room = λ (h : Bank-sound (g .F·Resource) (g .S·Resource) s). fewer-open (s .«open») m (q h .is-open) (c .count .ensures h) (c .if-count-ge-MOST-CLAIMS .left) in
+    let j = λ (h : Bank-sound (g .F·Resource) (g .S·Resource) s). joint (g .F·Resource) (g .S·Resource) (standing (g .F·Resource) (f .lawful) (f .rising) (f .carried) (f .read)) (standing (g .S·Resource) (t .lawful) (t .rising) (t .carried) (t .read)) s h (q h .is-open) in
     let l : low (s .split) x ≡ false = lt-leb (x .demand .shelf) (s .split) (c .if-claim-self .left) in
     let d = c .hand-on-else-claim-self .ensures in
     record {
-      kept = λ h. (h .0, d .kept (h .1), λ o. sides-high (joint (g .F·Resource) (g .S·Resource) (standing (g .F·Resource) (f .lawful) (f .rising) (f .carried) (f .read)) (standing (g .S·Resource) (t .lawful) (t .rising) (t .carried) (t .read)) s h o) x (q h .new) (room h) l (d .placed (h .1)));
-      placed = λ h. placed-open (s .«open») (q h .is-open) (placed-high (joint (g .F·Resource) (g .S·Resource) (standing (g .F·Resource) (f .lawful) (f .rising) (f .carried) (f .read)) (standing (g .S·Resource) (t .lawful) (t .rising) (t .carried) (t .read)) s h (q h .is-open)) x (q h .new) (room h) l (d .placed (h .1)));
+      kept = λ h. (h .0, d .kept (h .1), λ o. sides-high (j h) x (q h .new) (room h) l (d .placed (h .1)));
+      placed = λ h. placed-open (s .«open») (q h .is-open) (placed-high (j h) x (q h .new) (room h) l (d .placed (h .1)));
     }

@@ -1,8 +1,6 @@
 -- The claim under a key stands on one side alone.
-use mathlib.Core.Path.{_≡_, sym, ap, subst, _∙_}
-use mathlib.Core.Bool.{Bool, true}
-use Rattle.std.specs.declared.option.Option.the-variants.{Some, None}
-use Rattle.claims.specs.Book.{find, merge}
+use mathlib.Core.Path.{sym, _∙_}
+use Rattle.claims.specs.Book.{merge}
 use Rattle.claims.proofs.Books.{find-merge-first, find-merge-none}
 use Rattle.compound.proofs.Openings.{held-open}
 use Rattle.compound.proofs.bank.BankResource.claim.Needs as need

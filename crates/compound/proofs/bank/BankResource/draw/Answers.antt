@@ -4,7 +4,8 @@ use Rattle.std.specs.Options.{isSome}
 use Rattle.claims.specs.Book.{find}
 use Rattle.claims.proofs.Books.{none-is}
 use Rattle.compound.proofs.Openings.{standing, drawn-open}
-use Rattle.compound.proofs.Banks.{joint, drawn-first, drawn-second, sides-drawn-first, sides-drawn-second}
+use Rattle.compound.proofs.Sides.{sides-drawn-first, sides-drawn-second}
+use Rattle.compound.proofs.Banks.{joint, drawn-first, drawn-second}
 use Rattle.compound.proofs.bank.BankResource.draw.Needs as need
 
 pub returns-then-is-some : need.returns-then-is-some

@@ -4,7 +4,8 @@ use Rattle.std.specs.Options.{isSome}
 use Rattle.claims.specs.Book.{find}
 use Rattle.claims.proofs.Books.{none-is}
 use Rattle.compound.proofs.Openings.{standing, lifted-open}
-use Rattle.compound.proofs.Banks.{joint, lifted-first, lifted-second, sides-lifted-first, sides-lifted-second}
+use Rattle.compound.proofs.Sides.{sides-lifted-first, sides-lifted-second}
+use Rattle.compound.proofs.Banks.{joint, lifted-first, lifted-second}
 use Rattle.compound.proofs.bank.BankResource.lift.Needs as need
 
 pub returns-then-is-some : need.returns-then-is-some

@@ -1,8 +1,6 @@
 -- The units of a party on both sides are few enough to be summed.
-use mathlib.Core.Path.{_≡_, ap, _∙_}
 use native.Mathlib.Omega.{arith}
 use Rattle.claims.specs.Book.{merge}
-use Rattle.claims.specs.Units.{units-of}
 use Rattle.compound.specs.Joined.{joined}
 use Rattle.compound.proofs.Openings.{standing, units-open}
 use Rattle.compound.proofs.Banks.{joint, joint-units, joint-units-few}

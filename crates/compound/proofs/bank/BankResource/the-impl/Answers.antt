@@ -2,7 +2,8 @@
 use Rattle.compound.specs.Joined.{bank-rules, bank-book, Bank-sound}
 use Rattle.compound.specs.declared.bank.Bank.{Bank}
 use Rattle.compound.proofs.Openings.{Standing, standing, opened-laws, opened-stands}
-use Rattle.compound.proofs.Banks.{joined-laws, joint, joint-stands}
+use Rattle.compound.proofs.Joins.{joined-laws}
+use Rattle.compound.proofs.Banks.{joint, joint-stands}
 use Rattle.compound.proofs.bank.BankResource.the-impl.Needs as need
 
 pub lawful-law : need.lawful-law

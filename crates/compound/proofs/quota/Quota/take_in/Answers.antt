@@ -1,12 +1,8 @@
 -- What is below answers as the quota would, where the claim's party keeps to its limit.
 use Prim.Native.Nat.{_+_, _<_, _≤_}
 use native.Mathlib.Omega.{arith}
-use Rattle.std.proofs.shelf.Tests.{and-parts, leb-true}
 use Rattle.claims.specs.declared.Cause.the-variants.{OverLimit}
-use Rattle.claims.specs.Limits.{last-party}
-use Rattle.claims.specs.Rules.{is-party}
 use Rattle.claims.specs.Units.{units-of}
-use lib.Dec.{leb}
 use Rattle.compound.specs.Limited.{limit-of, limited, Keeps-limits, Quota-sound}
 use Rattle.compound.proofs.Openings.{standing, asked, placed-open}
 use Rattle.compound.proofs.Wholes.{placed-not}
