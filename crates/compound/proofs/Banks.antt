@@ -19,7 +19,7 @@ use Rattle.claims.specs.Book.{Book, key-of, find, insert, out, Rising, kept, ev
 use Rattle.claims.specs.Limits.{most-claims, most-units}
 use Rattle.claims.specs.Rules.{Rules, readable, is-party, refusal, added}
 use Rattle.claims.specs.Units.{units-of}
-use Rattle.claims.proofs.Books.{rising-merge, length-out, length-insert, length-merge, kept-out, out-absent, kept-merge-first, kept-merge-second, kept-insert-in, kept-insert-out, find-merge-none, every-insert, apart-insert-first, apart-insert-second, merge-insert-first, merge-insert-second, merge-without-first, merge-without-second, merge-out-first, merge-out-second, find-merge-first, find-apart, some-is, every-merge, every-from}
+use Rattle.claims.proofs.Books.{rising-merge, length-out, length-insert, length-merge, kept-out, out-absent, kept-merge-first, kept-merge-second, kept-insert-in, kept-insert-out, find-merge-none, every-insert, apart-insert-first, apart-insert-second, merge-insert-first, merge-insert-second, merge-without-first, merge-without-second, merge-out-first, merge-out-second, find-merge-first, find-apart, some-is, none-is, every-merge, every-from}
 use Rattle.resource.specs.Calls.{Placed, Lifted, Drawn}
 use Rattle.resource.specs.Draws.{drawn}
 use Rattle.resource.specs.declared.Resource.{Ghosts}
@@ -88,8 +88,9 @@ module _ {s : ℕ} {p q : Rules} {a b : Book} (j : Joint s p q a b) where
   lifted-first {k} h =
       lifted-whole (λ r. joined s r q) (λ z. merge z b) (first-has (k .0) h .0) (merge-without-first (k .0) a b (j .left .rising) (j .right .rising) (j .sides .distinct) (first-has (k .0) h .1))
 
-  pub lifted-second : {k : ClaimKey} {y : Result (Unit {0}) Fault} {q′ : Rules} {b′ : Book} → find a (k .0) ≡ None → Lifted k q b y q′ b′ → Lifted k (joined s p q) (merge a b) y (joined s p q′) (merge a b′)
-  lifted-second {k} n =
+  pub lifted-second : {k : ClaimKey} {y : Result (Unit {0}) Fault} {q′ : Rules} {b′ : Book} → isSome (find a (k .0)) ≡ false → Lifted k q b y q′ b′ → Lifted k (joined s p q) (merge a b) y (joined s p q′) (merge a b′)
+  lifted-second {k} h =
+      let n = none-is (find a (k .0)) h in
       lifted-whole (λ r. joined s p r) (λ z. merge a z) (find-merge-none (k .0) a b n) (merge-without-second (k .0) a b (j .left .rising) (j .right .rising) (j .sides .distinct) n)
 
   -- a book is carried as its parts are
@@ -121,8 +122,9 @@ module _ {s : ℕ} {p q : Rules} {a b : Book} (j : Joint s p q a b) where
       let n = first-has (k .0) h in
       drawn-whole (λ r. joined s r q) (λ z. merge z b) (n .0) (drawn-of-first (k .0) (n .1)) (λ u. merge-out-first (k .0) u a b (j .left .rising) (j .sides .distinct) (n .1))
 
-  pub drawn-second : {k : ClaimKey} {y : Result ItemNumber Fault} {q′ : Rules} {b′ : Book} → find a (k .0) ≡ None → Drawn k q b y q′ b′ → Drawn k (joined s p q) (merge a b) y (joined s p q′) (merge a b′)
-  drawn-second {k} n =
+  pub drawn-second : {k : ClaimKey} {y : Result ItemNumber Fault} {q′ : Rules} {b′ : Book} → isSome (find a (k .0)) ≡ false → Drawn k q b y q′ b′ → Drawn k (joined s p q) (merge a b) y (joined s p q′) (merge a b′)
+  drawn-second {k} h =
+      let n = none-is (find a (k .0)) h in
       drawn-whole (λ r. joined s p r) (λ z. merge a z) (find-merge-none (k .0) a b n) (drawn-of-second (k .0) n) (λ u. merge-out-second (k .0) u a b n)
 
   -- a claim under a new key, that the whole has room for
@@ -194,6 +196,10 @@ module _ {s : ℕ} {p q : Rules} {a b : Book} (j : Joint s p q a b) where
         go : (o : Option Cause) → Sides s a (added x b o)
         go None = record { lows = j .sides .lows; highs = every-insert (high s) x b (ap not t) (j .sides .highs); distinct = apart-insert-second x a b (lack .0) (j .sides .distinct); room = omega (arith, length-insert x b, length-merge a b) }
         go (Some z) = j .sides
+
+-- whether a side that was asked has a claim
+pub has : {t : Bool} {o held : Option Claim} → t ≡ isSome o → o ≡ held → isSome held ≡ t
+has e f = sym (e ∙ ap isSome f)
 
 -- a sound bank that is open
 pub joint : {F S : Type 0} (f : Ghosts F) (t : Ghosts S) → ((x : F) → f .sound x → Standing (f .rules x) (f .book x)) → ((x : S) → t .sound x → Standing (t .rules x) (t .book x)) → (v : Bank F S) → Bank-sound f t v → v .«open» ≡ true → Joint (v .split) (f .rules (v .first)) (t .rules (v .second)) (f .book (v .first)) (t .book (v .second))

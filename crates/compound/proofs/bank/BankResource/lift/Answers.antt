@@ -1,11 +1,7 @@
 -- The side that holds the claim lifts it as the bank would.
-use mathlib.Core.Path.{sym, ap, _∙_}
-use Rattle.std.specs.Options.{isSome}
-use Rattle.claims.specs.Book.{find}
-use Rattle.claims.proofs.Books.{none-is}
 use Rattle.compound.proofs.Openings.{standing, lifted-open}
 use Rattle.compound.proofs.Sides.{sides-lifted-first, sides-lifted-second}
-use Rattle.compound.proofs.Banks.{joint, lifted-first, lifted-second}
+use Rattle.compound.proofs.Banks.{joint, has, lifted-first, lifted-second}
 use Rattle.compound.proofs.bank.BankResource.lift.Needs as need
 
 pub returns-then-is-some : need.returns-then-is-some
@@ -19,7 +15,7 @@ returns-then-is-some g c =
       kept = λ h. (d .kept (h .0), h .1, λ o. sides-lifted-first (h .2 o) (d .lifted (h .0)));
       lifted = λ h.
           let j = joint (g .F·Resource) (g .S·Resource) (standing (g .F·Resource) (f .lawful) (f .rising) (f .carried) (f .read)) (standing (g .S·Resource) (t .lawful) (t .rising) (t .carried) (t .read)) s h is in
-          lifted-open (s .«open») is (lifted-first j (sym (c .if-is-some .ensures tt ∙ ap isSome (c .claim .ensures (h .0)))) (d .lifted (h .0)));
+          lifted-open (s .«open») is (lifted-first j (has (c .if-is-some .ensures tt) (c .claim .ensures (h .0))) (d .lifted (h .0)));
     }
 
 pub returns-else-is-some : need.returns-else-is-some
@@ -33,6 +29,5 @@ returns-else-is-some g c =
       kept = λ h. (h .0, d .kept (h .1), λ o. sides-lifted-second (h .2 o) (d .lifted (h .1)));
       lifted = λ h.
           let j = joint (g .F·Resource) (g .S·Resource) (standing (g .F·Resource) (f .lawful) (f .rising) (f .carried) (f .read)) (standing (g .S·Resource) (t .lawful) (t .rising) (t .carried) (t .read)) s h is in
-          let n = none-is (find (g .F·Resource .book (s .first)) (c .args .key .0)) (sym (c .if-is-some .ensures tt ∙ ap isSome (c .claim .ensures (h .0)))) in
-          lifted-open (s .«open») is (lifted-second j n (d .lifted (h .1)));
+          lifted-open (s .«open») is (lifted-second j (has (c .if-is-some .ensures tt) (c .claim .ensures (h .0))) (d .lifted (h .1)));
     }
