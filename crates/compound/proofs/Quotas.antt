@@ -3,7 +3,7 @@ use mathlib.Core.Path.{_≡_, refl, sym, ap, subst}
 use mathlib.Core.Bool.{true, false, _&&_}
 use mathlib.Core.List.{List, []}
 use mathlib.Core.Logic.{⊎-elim}
-use Prim.Native.Nat.{ℕ, suc, _+_, _-_, _<_, _≤_, min}
+use Prim.Native.Nat.{ℕ, suc, _+_, _-_, _^_, _<_, _≤_, min}
 use native.Mathlib.Omega.{arith}
 use lib.Dec.{eqb, leb}
 use Rattle.std.specs.Orderings.{Decides}
@@ -83,7 +83,7 @@ limited-stands limits {r} {b} h k = record {
 }
 
 -- the units of a party with one more demand are few enough to be summed
-pub summed : {r : Rules} {b : Book} → Standing r b → (p : ℕ) (d : Demand) {n m sum : ℕ} → n ≡ units-of (r .counts) p b → m ≡ r .counts d → sum ≡ min (n + m) 18446744073709551615 → sum ≡ units-of (r .counts) p b + r .counts d
+pub summed : {r : Rules} {b : Book} → Standing r b → (p : ℕ) (d : Demand) {n m sum : ℕ} → n ≡ units-of (r .counts) p b → m ≡ r .counts d → sum ≡ min (n + m) (2 ^ 64 - 1) → sum ≡ units-of (r .counts) p b + r .counts d
 summed {r} {b} h p d e f s =
     let x = units-few r (h .laws) p b in
     let y = counts-few r (h .laws) d in
