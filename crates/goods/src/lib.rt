@@ -1,6 +1,8 @@
 // The bottom kinds of goods: what stands on one shelf.
 pub use named::Named;
+pub use naming::NamedResource;
 pub use pool::Pool;
+pub use pooling::PoolResource;
 
 mod named;
 mod naming;

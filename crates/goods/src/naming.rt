@@ -79,7 +79,7 @@ impl Named {
     }
 }
 
-pub impl Counting for Named as NamedCounting {
+impl Counting for Named as NamedCounting {
     ghost counts = { λ s. named-rules s .counts };
 
     fn units_of(&self, demand: Demand) -> usize {

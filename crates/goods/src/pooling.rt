@@ -72,7 +72,7 @@ impl Pool {
     }
 }
 
-pub impl Counting for Pool as PoolCounting {
+impl Counting for Pool as PoolCounting {
     ghost counts = { λ s. pool-rules s .counts };
 
     fn units_of(&self, demand: Demand) -> usize {
