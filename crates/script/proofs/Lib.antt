@@ -1,0 +1,6 @@
+pub mod Numbers
+pub mod Splits
+pub mod Triples
+pub mod Spelling
+pub mod Exits
+pub mod Once

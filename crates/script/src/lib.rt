@@ -1,0 +1,10 @@
+// A booking script: its lines are read, dealt with by a broker, and answered by rows.
+pub use faults::ScriptFault;
+pub use faults::Unread;
+pub use reader::format_is_exact;
+pub use reader::read_line;
+
+mod faults;
+mod fields;
+mod reader;
+mod verbs;
