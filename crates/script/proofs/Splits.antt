@@ -56,9 +56,6 @@ pub spaced-push : (ns : List ℕ) (n : ℕ) → spaced (ns ++ n ∷ []) ≡ spac
 spaced-push [] n = ap (λ l. 32 ∷ l) (append-nil (decimal n))
 spaced-push (m ∷ ns) n = ap (λ l. 32 ∷ l) (ap (λ l. decimal m ++ l) (spaced-push ns n) ∙ sym (append-assoc (decimal m) (spaced ns) (32 ∷ decimal n)))
 
-pub spaced-more : (ns : List ℕ) (i : ℕ) → i < length ns → spaced (take i ns) ++ field (getD ns i 0) ≡ spaced (take (i + 1) ns)
-spaced-more ns i l = sym (ap spaced (take-more ns i 0 l) ∙ spaced-push (take i ns) (getD ns i 0))
-
 small-push : (ns : List ℕ) (n : ℕ) → Small ns → n < 2 ^ 32 → Small (ns ++ n ∷ [])
 small-push [] n h l = (l, tt)
 small-push (m ∷ ns) n h l = (h .0, small-push ns n (h .1) l)

@@ -3,3 +3,5 @@ pub mod Letters
 pub mod Ends
 pub mod Spaced
 pub mod Format
+pub mod Faults
+pub mod Rows

@@ -1,0 +1,34 @@
+-- The number and the values of each fault of a script.
+use mathlib.Core.List.{List, []}
+use Prim.Native.Nat.{ℕ}
+use Rattle.std.specs.declared.result.Result.{Result}
+use Rattle.std.specs.declared.result.Result.the-variants.{Ok, Err}
+use Rattle.machine.specs.declared.Refusal.{Refusal}
+use Rattle.machine.specs.Refusals.{refusal-number}
+use Rattle.script.specs.declared.faults.Unread.{Unread as Unread-kind}
+use Rattle.script.specs.declared.faults.Unread.the-variants.{Letter, Number, Count}
+use Rattle.script.specs.declared.faults.OnLine.{OnLine}
+use Rattle.script.specs.declared.faults.ScriptFault.{ScriptFault}
+use Rattle.script.specs.declared.faults.ScriptFault.the-variants.{TooLong, Unread, Refused}
+
+abbrev pub unread-number : Unread-kind → ℕ
+unread-number Letter = 33
+unread-number Number = 34
+unread-number Count = 35
+
+abbrev pub fault-number : ScriptFault → ℕ
+fault-number TooLong = 31
+fault-number (Unread line unread) = unread-number unread
+fault-number (Refused line refusal) = refusal-number refusal
+
+-- a result of a line: where it went wrong, the line is known
+abbrev pub at-line : {T E : Type 0} → ℕ → Result T E → Result T (OnLine E)
+at-line n (Ok x) = Ok x
+at-line n (Err e) = Err (record { line = n; fault = e })
+
+-- the script's fault that a line which is not read makes, and that a refusal makes
+abbrev pub unread-at : OnLine Unread-kind → ScriptFault
+unread-at at = Unread (at .line) (at .fault)
+
+abbrev pub refused-at : OnLine Refusal → ScriptFault
+refused-at at = Refused (at .line) (at .fault)
