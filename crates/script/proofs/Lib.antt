@@ -4,3 +4,7 @@ pub mod Triples
 pub mod Spelling
 pub mod Exits
 pub mod Once
+pub mod Fed
+pub mod Turns
+pub mod Views
+pub mod Pinned

@@ -5,3 +5,6 @@ pub mod Spaced
 pub mod Format
 pub mod Faults
 pub mod Rows
+pub mod Lines
+pub mod Scripts
+pub mod Runs

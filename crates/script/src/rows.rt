@@ -6,8 +6,8 @@ ghost use Rattle.std.specs.Results.{isOk};
 ghost use Rattle.std.specs.Written.{decimal};
 ghost use Rattle.std.specs.declared.option.Option.the-variants.{Some};
 ghost use Rattle.broker.specs.Calls.{units-of, told-by};
-ghost use Rattle.script.specs.Faults.{fault-number};
-ghost use Rattle.script.specs.Rows.{worded, details, fault-details, said, row-bytes};
+ghost use Rattle.script.specs.Faults.{refusal-values, fault-number, fault-values};
+ghost use Rattle.script.specs.Rows.{worded, said, row-bytes};
 ghost use Rattle.script.specs.Spaced.{spaced};
 use crate::faults::ScriptFault;
 use broker::Answer;
@@ -63,7 +63,7 @@ impl fmt::Display for Told as ToldDisplay {
 struct Details(Refusal);
 
 impl fmt::Display for Details as DetailsDisplay {
-    ghost shown = { λ d. Some (details (d .0)) };
+    ghost shown = { λ d. Some (spaced (refusal-values (d .0))) };
 
     fn fmt<W: fmt::Write>(&self, f: &mut fmt::Formatter<W>) -> fmt::Result {
         match self.0 {
@@ -86,7 +86,7 @@ impl fmt::Display for Details as DetailsDisplay {
 
 // The number of a fault, and what a refusal tells beside it.
 pub impl fmt::Display for ScriptFault as ScriptFaultDisplay {
-    ghost shown = { λ fault. Some (decimal (fault-number fault) ++ fault-details fault) };
+    ghost shown = { λ fault. Some (decimal (fault-number fault) ++ spaced (fault-values fault)) };
 
     fn fmt<W: fmt::Write>(&self, f: &mut fmt::Formatter<W>) -> fmt::Result {
         let number = self.number();
