@@ -1,0 +1,11 @@
+mod Sizes
+mod Turns
+mod Places
+mod Lifts
+mod Bundling
+mod Drawing
+mod Reading
+mod Granting
+mod Ending
+mod Taking
+mod Starting

@@ -5,8 +5,12 @@ pub use call::Units;
 pub use desk::Broker;
 pub use draft::Draft;
 
+mod asking;
+mod bundles;
 mod call;
+mod calls;
 mod desk;
 mod draft;
 mod drafting;
 mod held;
+mod holding;

@@ -3,7 +3,7 @@ use mathlib.Core.Bool.{Bool, true, false, cond, _&&_}
 use mathlib.Core.List.{List, [], _∷_}
 use mathlib.Core.Path.{_≡_}
 use lib.ListN.{length, getD}
-use Prim.Native.Nat.{ℕ, suc, _+_, _<_}
+use Prim.Native.Nat.{ℕ, suc, _<_, _≤_}
 use lib.Dec.{ltb, eqb}
 use Rattle.claims.specs.declared.Claim.{Claim}
 use Rattle.claims.specs.Book.{Book, key-of}
@@ -22,6 +22,16 @@ above k (c ∷ b) = ltb k (key-of c) && above k b
 abbrev pub rises : Book → Bool
 rises [] = true
 rises (c ∷ b) = above (key-of c) b && rises b
+
+-- no key is under k
+abbrev pub From : ℕ → Book → Type 0
+From k [] = Unit {0}
+From k (c ∷ b) = (k ≤ key-of c) × From k b
+
+-- each key is under k
+abbrev pub Under : ℕ → Book → Type 0
+Under k [] = Unit {0}
+Under k (c ∷ b) = (key-of c < k) × Under k b
 
 -- the claim under the key k stands at i
 pub record Stands (k : ℕ) (b : Book) (i : ℕ) : Type 0 where

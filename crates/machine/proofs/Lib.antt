@@ -1,0 +1,4 @@
+pub mod Bundles
+pub mod Entries
+pub mod Keeping
+pub mod Reaching

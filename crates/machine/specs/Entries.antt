@@ -7,9 +7,9 @@ use lib.ListN.{length}
 use Rattle.std.specs.declared.option.Option.{Option}
 use Rattle.std.specs.declared.option.Option.the-variants.{Some, None}
 use Rattle.claims.specs.declared.Claim.{Claim}
-use Rattle.claims.specs.declared.ClaimState.the-variants.{Out}
+use Rattle.claims.specs.declared.ClaimState.the-variants.{Waiting, Out}
 use Rattle.claims.specs.declared.Demand.{Demand}
-use Rattle.claims.specs.Book.{Book}
+use Rattle.claims.specs.Book.{Book, find}
 use Rattle.claims.specs.Limits.{last-party}
 use Rattle.machine.specs.Limits.{most-demands}
 use Rattle.machine.specs.Machine.{Promise, State, bundle}
@@ -51,11 +51,22 @@ abbrev pub live-claims : List Entry → Book
 live-claims [] = []
 live-claims (e ∷ es) = claims-of e ++ live-claims es
 
+-- once it is taken, a promise has a unit for each of its demands
+abbrev pub Handed : List Demand → Option (List ℕ) → Type 0
+Handed ds None = Unit {0}
+Handed ds (Some us) = length us ≡ length ds
+
+-- under each key of a promise's demands, from k on, a claim waits
+abbrev pub Waits : ℕ → List Demand → Book → Type 0
+Waits k [] b = Unit {0}
+Waits k (d ∷ ds) b = ((c : Claim) × (find b k ≡ Some c) × (c .state ≡ Waiting)) × Waits (k + 1) ds b
+
 -- a promise that a broker makes: of a party, with few demands
 pub record Fit (e : Entry) : Type 0 where
   pub party-from : 1 ≤ e .party
   pub party-to : e .party ≤ last-party
   pub size : length (e .demands) ≤ most-demands
+  pub given : Handed (e .demands) (e .units)
 
 -- a number is below the next one, if any is left
 abbrev pub Below : ℕ → Option ℕ → Type 0

@@ -3,3 +3,4 @@ pub mod Refusals
 pub mod Slots
 pub mod Machine
 pub mod Entries
+pub mod Reached

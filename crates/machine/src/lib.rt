@@ -2,6 +2,7 @@
 ghost use mathlib.Core.Path.{_≡_};
 ghost use Rattle.machine.specs.Refusals.{refusal-number, not-carried-for};
 ghost use Rattle.machine.specs.Slots.{slot-number, met};
+ghost use Rattle.machine.specs.Reached.{Stays-consistent};
 use claims::Fault;
 use claims::FaultDebug;
 use claims::FaultPartialEq;
@@ -114,4 +115,13 @@ impl Slot {
             (Slot::Taken, Event::Take | Event::Release | Event::Lapse) => None,
         }
     }
+}
+
+// States a theorem: whatever calls a broker has answered, the goods carry its book, which holds just the claims of
+// its promises; a broker made over a book with claims promises nothing and leaves that book alone.
+pub fn machine_stays_consistent() -> u8
+    ensures value { λ r. ⌜ r ≡ 0 ⌝ }
+    ensures stated { λ _. ⌜ Stays-consistent ⌝ }
+{
+    0
 }
