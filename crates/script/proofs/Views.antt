@@ -1,10 +1,12 @@
 -- What a broker says of a script is what the machine says.
 use mathlib.Core.Path.{_≡_, refl, sym, ap, subst, _∙_}
 use mathlib.Core.Logic.{⊎-elim}
-use mathlib.Core.List.{List, [], _∷_, _++_}
-use Prim.Native.Nat.{ℕ, _+_}
+use mathlib.Core.Bool.{cond}
+use mathlib.Core.List.{List, [], _∷_, _++_, append-nil}
+use Prim.Native.Nat.{ℕ, _+_, _≤_, _<_}
+use native.Mathlib.Omega.{arith}
 use lib.ListN.{length}
-use Rattle.std.specs.Results.{Cases}
+use Rattle.std.specs.Results.{Cases, isOk}
 use Rattle.std.specs.declared.result.Result.{Result}
 use Rattle.std.specs.declared.result.Result.the-variants.{Ok, Err}
 use Rattle.std.proofs.shelf.Tests.{cases-lt}
@@ -19,8 +21,9 @@ use Rattle.broker.specs.Calls.{call-of, answer-of}
 use Rattle.broker.specs.Steps.{Sound, Steps}
 use Rattle.broker.specs.View.{view}
 use Rattle.script.specs.declared.faults.ScriptFault.{ScriptFault}
+use Rattle.script.specs.declared.faults.ScriptFault.the-variants.{TooLong}
 use Rattle.script.specs.Limits.{most-bytes}
-use Rattle.script.specs.Rows.{worded, said}
+use Rattle.script.specs.Rows.{worded, said, row-bytes}
 use Rattle.script.specs.Runs.{replied, Answers-line, by-broker, by-machine, Runs}
 use Rattle.script.specs.Scripts.{Line, Rows, Answered, Stopped, Settled}
 
@@ -89,3 +92,7 @@ module _ {X : Type 0} (m : Ghosts X) where
         kept = λ ok. sound-after (by-broker m) (by-machine rules) (view m) (Over rules) (each-call rules) r b b′ script rows (ok, refl) told .0;
         same = λ ok. sound-after (by-broker m) (by-machine rules) (view m) (Over rules) (each-call rules) r b b′ script rows (ok, refl) told .1;
       }
+
+  pub runs-too-long : {T E : Type 0} (r : Result T E) (b : Broker X) (script old new : List ℕ) → most-bytes < length script → new ≡ cond (isOk r) (old ++ row-bytes 0 (said (Err TooLong))) old → Runs m b script old r new b
+  runs-too-long (Ok x) b script old new long is = runs (Ok x) b b script old new _ is (record { long = λ _. (refl, refl); short = λ l. absurd (omega arith) })
+  runs-too-long (Err x) b script old new long is = runs (Err x) b b script old new [] (is ∙ sym (append-nil old)) (record { long = λ _. (refl, refl); short = λ l. absurd (omega arith) })

@@ -70,11 +70,9 @@ pub fn answer_script<R: Resource>(
 // The lines that are answered are the script, cut at its line feeds and nowhere else.
 pub fn lines_are_the_script()
     ensures { λ _. ⌜ Lines-are-the-script ⌝ }
-{
-}
+{}
 
 // The machine has one list of rows for a script, and comes to one state.
 pub fn rows_are_pinned()
     ensures { λ _. ⌜ Rows-are-pinned ⌝ }
-{
-}
+{}
