@@ -1,0 +1,10 @@
+pub mod Limits
+pub mod Letters
+pub mod Ends
+pub mod Spaced
+pub mod Format
+pub mod Faults
+pub mod Rows
+pub mod Lines
+pub mod Scripts
+pub mod Runs
