@@ -1,7 +1,7 @@
 // What is promised: demands, claims and the numbers that name them, and the claims of a book in order.
 ghost use mathlib.Core.Path.{_≡_};
 ghost use Rattle.claims.specs.Causes.{cause-number};
-ghost use Rattle.claims.specs.Rules.{is-party};
+ghost use Rattle.claims.specs.Rules.{is-party, waiting as waiting-claim, seated as seated-claim};
 pub use counting::Counting;
 pub use sorted::Claims;
 
@@ -100,6 +100,34 @@ impl Party {
         ensures { λ r. ⌜ r ≡ is-party self ⌝ }
     {
         (1 <= self.0) & (self.0 <= LAST_PARTY)
+    }
+}
+
+impl Claim {
+    // A claim that comes in without a unit.
+    pub fn waiting(key: ClaimKey, party: Party, demand: Demand) -> Claim
+        ensures { λ r. ⌜ r ≡ waiting-claim key party demand ⌝ }
+    {
+        let state = ClaimState::Waiting;
+        Claim {
+            key,
+            party,
+            demand,
+            state,
+        }
+    }
+
+    // A claim that comes in with the unit that it has.
+    pub fn seated(key: ClaimKey, party: Party, demand: Demand, unit: ItemNumber) -> Claim
+        ensures { λ r. ⌜ r ≡ seated-claim key party demand unit ⌝ }
+    {
+        let state = ClaimState::Out(unit);
+        Claim {
+            key,
+            party,
+            demand,
+            state,
+        }
     }
 }
 
