@@ -21,7 +21,7 @@ true-and x y e = ap (λ (z : Bool). z && y) e
 module _ (t : Claim → Bool) where
   -- what holds of each claim holds of the one under a key
   pub every-find : (k : ℕ) (c : Claim) (b : Book) → every t b ≡ true → find b k ≡ Some c → t c ≡ true
-  every-find k c [] e f = absurd (let z : _≡_ {A = ℕ} 0 1 = cc in omega arith)
+  every-find k c [] e f = cc
   every-find k c (x ∷ b) e f =
       let p = and-parts (t x) (every t b) e in
       go (eqb (key-of x) k) f (λ g. every-find k c b (p .1) g)
@@ -32,7 +32,7 @@ module _ (t : Claim → Bool) where
 
   -- and of the one at a place; and what holds at each place holds of each claim
   pub every-nth : (i : ℕ) (c : Claim) (b : Book) → every t b ≡ true → nth b i ≡ Some c → t c ≡ true
-  every-nth i c [] e f = absurd (let z : _≡_ {A = ℕ} 0 1 = cc in omega arith)
+  every-nth i c [] e f = cc
   every-nth zero c (x ∷ b) e f = let same : x ≡ c = cc in ap t (sym same) ∙ and-parts (t x) (every t b) e .0
   every-nth (suc i) c (x ∷ b) e f = every-nth i c b (and-parts (t x) (every t b) e .1) f
 
@@ -51,7 +51,7 @@ module _ (t : Claim → Bool) where
 
   -- and so does one that goes out
   pub every-sent : (k u : ℕ) (x : Claim) (b : Book) → every t b ≡ true → find b k ≡ Some x → every t (out k u b) ≡ t (sent u x)
-  every-sent k u x [] e f = absurd (let z : _≡_ {A = ℕ} 0 1 = cc in omega arith)
+  every-sent k u x [] e f = cc
   every-sent k u x (c ∷ b) e f =
       let p = and-parts (t c) (every t b) e in
       go (eqb (key-of c) k) f (λ g. every-sent k u x b (p .1) g)

@@ -38,7 +38,8 @@ unit-shows : (u : ℕ) (q : ClaimState) → ((i : ItemNumber) → q ≡ Out i �
 unit-shows u Waiting h = refl
 unit-shows u (Out i) h = eq-eqb (i .0) u (h i refl)
 
--- such goods: what they read and count, whether they suffice for a book whatever its units, and the unit of a demand
+-- such goods: what they read and count, whether they suffice for a book whatever its units, the unit of a demand,
+-- their cause, and what they are to show
 pub record Fixed : Type 0 where
   pub formed : Demand → Bool
   pub amount : Demand → ℕ
@@ -62,6 +63,12 @@ pub record Carried (f : Fixed) (b : Book) : Type 0 where
   pub few : length b ≤ most-claims
   pub sufficient : f .suffice b ≡ true
   pub units : (i : ℕ) (c : Claim) (u : ItemNumber) → nth b i ≡ Some c → c .state ≡ Out u → u .0 ≡ f .unit (c .demand)
+
+-- a claim that has gone out
+pub record Gone (s : ℕ) (f : Fixed) (k : ClaimKey) (b b′ : Book) (c : Claim) : Type 0 where
+  pub carried : shelved s (kind-of f) .carries b′ ≡ true
+  pub all-read : every (readable (shelved s (kind-of f))) b′ ≡ true
+  pub drawn : Drawn k (shelved s (kind-of f)) b (Ok (record { 0 = f .unit (c .demand) })) (shelved s (kind-of f)) b′
 
 module _ (s : ℕ) (f : Fixed) where
   abbrev rules : Rules
@@ -96,16 +103,15 @@ module _ (s : ℕ) (f : Fixed) where
       (carries-out j v c b e g ∙ eq-eqb v v refl)
       (λ u l h. carries-out j u c b e g ∙ ne-eqb u v (λ z. omega arith))
 
-  -- what is left of a book from which a claim went out
-  pub goes-out-as : (k : ClaimKey) (b b′ : Book) (c : Claim) → rules .carries b ≡ true → every (readable rules) b ≡ true → found-waiting k (find b (k .0)) ≡ Ok c → b′ ≡ out (k .0) (f .unit (c .demand)) b →
-      (rules .carries b′ ≡ true) × (every (readable rules) b′ ≡ true) × Drawn k rules b (Ok (record { 0 = f .unit (c .demand) })) rules b′
+  pub goes-out-as : (k : ClaimKey) (b b′ : Book) (c : Claim) → rules .carries b ≡ true → every (readable rules) b ≡ true → found-waiting k (find b (k .0)) ≡ Ok c → b′ ≡ out (k .0) (f .unit (c .demand)) b → Gone s f k b b′ c
   goes-out-as k b b′ c e all g after =
       let v = f .unit (c .demand) in
-      let w = waits-there k (find b (k .0)) c g in (
-        ap (rules .carries) after ∙ carries-out (k .0) v c b e (w .0) ∙ eq-eqb v v refl,
-        ap (every (readable rules)) after ∙ every-out (readable rules) (k .0) v b (λ x. refl) ∙ all,
-        goes-out k rules b b′ v c (w .0) (w .1) (drawn-is (k .0) c b e (w .0)) after,
-      )
+      let w = waits-there k (find b (k .0)) c g in
+      record {
+        carried = ap (rules .carries) after ∙ carries-out (k .0) v c b e (w .0) ∙ eq-eqb v v refl;
+        all-read = ap (every (readable rules)) after ∙ every-out (readable rules) (k .0) v b (λ x. refl) ∙ all;
+        drawn = goes-out k rules b b′ v c (w .0) (w .1) (drawn-is (k .0) c b e (w .0)) after;
+      }
 
   pub fixed-laws : Laws rules
   fixed-laws = shelved-laws s (kind-of f)

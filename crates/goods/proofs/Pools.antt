@@ -32,7 +32,7 @@ quantities-without k (c ∷ b) =
 
 -- a claim that is lifted gives its quantity back
 pub quantities-lift : (k : ℕ) (x : Claim) (b : Book) → find b k ≡ Some x → x .demand .first + quantities (without k b) ≡ quantities b
-quantities-lift k x [] f = absurd (let z : _≡_ {A = ℕ} 0 1 = cc in omega arith)
+quantities-lift k x [] f = cc
 quantities-lift k x (c ∷ b) f = go (eqb (key-of c) k) f (λ g. quantities-lift k x b g)
   where
     go : (q : Bool) → cond q (Some c) (find b k) ≡ Some x → (find b k ≡ Some x → x .demand .first + quantities (without k b) ≡ quantities b) → x .demand .first + quantities (cond q b (c ∷ without k b)) ≡ quantities (c ∷ b)

@@ -38,18 +38,18 @@ one-number-says most d e =
     (leb-true 1 (d .first) (q .0), leb-true (d .first) most (q .1))
 
 -- the refusal of a claim that is barred, or for which there may not be enough
-abbrev pub or-short : Option Cause → Bool → Cause → Option Cause
+abbrev or-short : Option Cause → Bool → Cause → Option Cause
 or-short (Some x) e short = Some x
 or-short None e short = cond e None (Some short)
 
 -- what is answered Ok has nothing against it
 unbarred : (k : ClaimKey) (o : Option Cause) → Ok tt ≡ answered k o → o ≡ None
 unbarred k None e = refl
-unbarred k (Some x) e = absurd (let z : _≡_ {A = ℕ} 0 1 = cc in omega arith)
+unbarred k (Some x) e = cc
 
 let-in : (q : Bool) (o : Option Cause) → cond q o (Some Unreadable) ≡ None → o ≡ None
 let-in true o e = e
-let-in false o e = absurd (let z : _≡_ {A = ℕ} 0 1 = cc in omega arith)
+let-in false o e = cc
 
 -- a claim that has come into a book
 pub record Entered (s : ℕ) (k : Kind) (b b′ : Book) (c : Claim) : Type 0 where
@@ -142,7 +142,7 @@ module _ (s : ℕ) (k : Kind) where
     nothing = λ d e. cond-false (on-shelf s d && k .formed d) (k .amount d) 0 e;
   }
 
--- what a key shows where a claim waits under it, or lies
+-- what was found under a key
 pub waits-there : (k : ClaimKey) (o : Option Claim) (c : Claim) → found-waiting k o ≡ Ok c → (o ≡ Some c) × (c .state ≡ Waiting)
 waits-there k None c e = absurd (let z : _≡_ {A = ℕ} 0 1 = cc in omega arith)
 waits-there k (Some x) c e = go (x .state) refl e

@@ -55,8 +55,11 @@ named s n = shelved s (named-kind n)
 -- no item is promised twice, and none that is missing
 pub record Kept-apart (n : ℕ) (b : Book) : Type 0 where
   pub few : length b ≤ most-claims
+  -- no two claims name one item
   pub once : (i j : ℕ) (c d : Claim) → i < j → nth b i ≡ Some c → nth b j ≡ Some d → item c ≡ item d → ⊥
+  -- each item named is one of the goods
   pub there : (i : ℕ) (c : Claim) → nth b i ≡ Some c → item c ≤ n
+  -- each claim that is out has the item that it names
   pub own : (i : ℕ) (c : Claim) (u : ItemNumber) → nth b i ≡ Some c → c .state ≡ Out u → u .0 ≡ item c
 
 -- named goods carry exactly the books in which items are kept apart

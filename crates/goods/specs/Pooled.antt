@@ -42,7 +42,9 @@ pool s n = shelved s (pool-kind n)
 -- O'Neil's escrow: all that is promised, whether it waits or is out, sums to at most n units
 pub record Escrowed (n : ℕ) (b : Book) : Type 0 where
   pub few : length b ≤ most-claims
+  -- the quantities, waiting and out, do not pass the size
   pub covered : quantities b ≤ n
+  -- each claim that is out has the unit 0
   pub alike : (i : ℕ) (c : Claim) (u : ItemNumber) → nth b i ≡ Some c → c .state ≡ Out u → u .0 ≡ 0
 
 -- a pool carries exactly the books that escrow allows
