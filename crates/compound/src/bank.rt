@@ -8,7 +8,6 @@ use crate::taking::hand_on;
 use claims::Cause;
 use claims::Claim;
 use claims::ClaimKey;
-use claims::ClaimState;
 use claims::Demand;
 use claims::Fault;
 use claims::ItemNumber;
@@ -81,13 +80,7 @@ pub impl<F: Resource, S: Resource> Resource for Bank<F, S> as BankResource {
     ghost sound = { Bank-sound F·Resource S·Resource };
 
     fn place(&mut self, key: ClaimKey, party: Party, demand: Demand) -> Result<(), Fault> {
-        let state = ClaimState::Waiting;
-        self.take_in(Claim {
-            key,
-            party,
-            demand,
-            state,
-        })
+        self.take_in(Claim::waiting(key, party, demand))
     }
 
     fn seat(
@@ -97,13 +90,7 @@ pub impl<F: Resource, S: Resource> Resource for Bank<F, S> as BankResource {
         demand: Demand,
         unit: ItemNumber,
     ) -> Result<(), Fault> {
-        let state = ClaimState::Out(unit);
-        self.take_in(Claim {
-            key,
-            party,
-            demand,
-            state,
-        })
+        self.take_in(Claim::seated(key, party, demand, unit))
     }
 
     fn draw(&mut self, key: ClaimKey) -> Result<ItemNumber, Fault> {

@@ -10,7 +10,6 @@ use crate::taking::hand_on;
 use claims::Cause;
 use claims::Claim;
 use claims::ClaimKey;
-use claims::ClaimState;
 use claims::Demand;
 use claims::Fault;
 use claims::ItemNumber;
@@ -95,13 +94,7 @@ pub impl<R: Resource> Resource for Quota<R> as QuotaResource {
     ghost sound = { Quota-sound R·Resource };
 
     fn place(&mut self, key: ClaimKey, party: Party, demand: Demand) -> Result<(), Fault> {
-        let state = ClaimState::Waiting;
-        self.take_in(Claim {
-            key,
-            party,
-            demand,
-            state,
-        })
+        self.take_in(Claim::waiting(key, party, demand))
     }
 
     fn seat(
@@ -111,13 +104,7 @@ pub impl<R: Resource> Resource for Quota<R> as QuotaResource {
         demand: Demand,
         unit: ItemNumber,
     ) -> Result<(), Fault> {
-        let state = ClaimState::Out(unit);
-        self.take_in(Claim {
-            key,
-            party,
-            demand,
-            state,
-        })
+        self.take_in(Claim::seated(key, party, demand, unit))
     }
 
     fn draw(&mut self, key: ClaimKey) -> Result<ItemNumber, Fault> {

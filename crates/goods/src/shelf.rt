@@ -1,10 +1,9 @@
 ghost use mathlib.Core.Path.{_≡_};
 ghost use Rattle.claims.specs.Book.{find as held};
 ghost use Rattle.claims.specs.Held.{claims-book};
-ghost use Rattle.claims.specs.Rules.{answered, waiting as waiting-claim};
+ghost use Rattle.claims.specs.Rules.{answered};
 ghost use Rattle.goods.specs.Asked.{barred, found, found-waiting};
 ghost use Rattle.goods.specs.Shelves.{on-shelf, one-number, waits-or-has};
-ghost use Rattle.resource.specs.Calls.{seated as seated-claim};
 use claims::Cause;
 use claims::Claim;
 use claims::ClaimKey;
@@ -12,10 +11,8 @@ use claims::ClaimState;
 use claims::Claims;
 use claims::Demand;
 use claims::Fault;
-use claims::ItemNumber;
 use claims::LAST_SHELF;
 use claims::MOST_CLAIMS;
-use claims::Party;
 
 // Whether a demand is of the shelf, which has to be one of the shelves.
 pub(crate) fn is_on_shelf(demand: Demand, shelf: u32) -> bool
@@ -38,32 +35,6 @@ pub(crate) fn waits_or_has(state: ClaimState, unit: u32) -> bool
     match state {
         ClaimState::Waiting => true,
         ClaimState::Out(item) => item.0 == unit,
-    }
-}
-
-// A claim that comes in without a unit.
-pub(crate) fn waiting(key: ClaimKey, party: Party, demand: Demand) -> Claim
-    ensures { λ r. ⌜ r ≡ waiting-claim key party demand ⌝ }
-{
-    let state = ClaimState::Waiting;
-    Claim {
-        key,
-        party,
-        demand,
-        state,
-    }
-}
-
-// A claim that comes in with a unit.
-pub(crate) fn seated(key: ClaimKey, party: Party, demand: Demand, unit: ItemNumber) -> Claim
-    ensures { λ r. ⌜ r ≡ seated-claim key party demand unit ⌝ }
-{
-    let state = ClaimState::Out(unit);
-    Claim {
-        key,
-        party,
-        demand,
-        state,
     }
 }
 
