@@ -5,8 +5,7 @@ use native.Mathlib.Omega.{arith}
 use Rattle.std.specs.Options.{okOr}
 use Rattle.std.specs.declared.option.Option.{Option}
 use Rattle.std.specs.declared.option.Option.the-variants.{Some, None}
-use Rattle.std.specs.declared.result.Result.{Result}
-use Rattle.std.specs.declared.result.Result.the-variants.{Ok, Err}
+use Rattle.std.specs.declared.result.Result.the-variants.{Err}
 
 pub or-none : {T E : Type 0} (o : Option T) (e x : E) → okOr o e ≡ Err x → (o ≡ None) × (x ≡ e)
 or-none None e x is = (refl, cc)

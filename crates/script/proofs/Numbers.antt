@@ -1,17 +1,15 @@
 -- Which bytes are a number as it is written.
-use mathlib.Core.Path.{_≡_, refl, sym, ap, subst, _∙_}
-use mathlib.Core.List.{List, [], _∷_, _++_, append-assoc}
-use Prim.Native.Nat.{ℕ, zero, suc, _+_, _-_, _^_, _≤_, _<_}
+use mathlib.Core.Path.{_≡_, sym, ap, subst, _∙_}
+use mathlib.Core.List.{List}
+use Prim.Native.Nat.{ℕ, zero, suc, _-_, _^_, _<_}
 use native.Mathlib.Omega.{arith}
-use borrow.Author.Needs.{needs}
-use lib.ListN.{length, getD, take, drop}
+use lib.ListN.{length, getD}
 use Rattle.std.specs.Options.{Cases}
 use Rattle.std.specs.Numbers.{Converted}
 use Rattle.std.specs.Results.{okPart}
 use Rattle.std.specs.Reads.{ReadsUnsigned, Digits, value}
 use Rattle.std.specs.Text.{In, Utf8}
 use Rattle.std.specs.Written.{decimal}
-use Rattle.std.specs.shelf.Lists.{All}
 use Rattle.std.specs.declared.result.Result.{Result}
 use Rattle.std.specs.declared.result.Result.the-variants.{Ok, Err}
 use Rattle.std.proofs.shelf.Numerals.{Numerals, numerals-by-value, tells-digits, parse-plain, digit-at}

@@ -1,14 +1,13 @@
 -- A line reads in one way only.
 use mathlib.Core.Path.{_≡_, refl, sym, ap, subst, _∙_}
 use mathlib.Core.Bool.{cond}
-use mathlib.Core.Logic.{inl, inr}
+use mathlib.Core.Logic.{inl}
 use mathlib.Core.List.{List, [], _∷_, _++_}
 use Prim.Native.Nat.{ℕ, _+_, _*_}
 use native.Mathlib.Omega.{arith}
 use lib.Dec.{eqb}
 use lib.ListN.{length, getD, drop}
 use Rattle.std.specs.Written.{decimal}
-use Rattle.std.specs.declared.result.Result.{Result}
 use Rattle.std.specs.declared.result.Result.the-variants.{Ok, Err}
 use Rattle.std.proofs.shelf.Decimals.{same-from-decimal}
 use Rattle.std.proofs.shelf.Lists.{length-take-le}
@@ -22,9 +21,8 @@ use Rattle.broker.specs.Calls.{call-of}
 use Rattle.broker.specs.Drafts.{demands-of}
 use Rattle.script.specs.declared.verbs.Verb.{Verb}
 use Rattle.script.specs.declared.verbs.Verb.the-variants as verbs
-use Rattle.script.specs.declared.faults.Unread.{Unread}
 use Rattle.script.specs.declared.faults.Unread.the-variants.{Letter, Number, Count}
-use Rattle.script.specs.Format.{triples, verb-of, numbers-of, spelled, Fitting, Reads-as, heard, One-reading, Spelled-is-read}
+use Rattle.script.specs.Format.{triples, verb-of, numbers-of, spelled, Fitting, Reads-as, One-reading, Spelled-is-read}
 use Rattle.script.specs.Letters.{letter}
 use Rattle.script.specs.Spaced.{space, spaced, Small}
 use Rattle.script.proofs.Splits.{cut-once, decimal-free, spaced-opens}

@@ -1,5 +1,5 @@
 -- The machine has one list of rows for a script.
-use mathlib.Core.Path.{_≡_, refl, sym, ap, subst, _∙_}
+use mathlib.Core.Path.{_≡_, sym, ap, subst, _∙_}
 use mathlib.Core.List.{List, [], _∷_, _++_}
 use Prim.Native.Nat.{ℕ, _+_}
 use native.Mathlib.Omega.{arith}
@@ -7,7 +7,7 @@ use Rattle.std.specs.Results.{Cases}
 use Rattle.std.specs.declared.result.Result.{Result}
 use Rattle.std.specs.declared.result.Result.the-variants.{Ok, Err}
 use Rattle.claims.specs.Rules.{Rules}
-use Rattle.machine.specs.Machine.{State, Call as Machine-call, Answer as Machine-answer, step}
+use Rattle.machine.specs.Machine.{State, Answer as Machine-answer, step}
 use Rattle.broker.specs.declared.call.Call.{Call}
 use Rattle.broker.specs.Calls.{call-of}
 use Rattle.script.specs.declared.faults.ScriptFault.the-variants.{Unread}

@@ -1,22 +1,21 @@
 -- From numbers to a call, and from a line to its parts.
 use mathlib.Core.Path.{_≡_, refl, sym, ap, subst, _∙_}
 use mathlib.Core.List.{List, [], _∷_}
-use Prim.Native.Nat.{ℕ, _+_, _*_, _≤_, _<_}
+use Prim.Native.Nat.{ℕ, _≤_, _<_}
 use native.Mathlib.Omega.{arith}
 use lib.ListN.{length, getD, take, drop}
 use Rattle.std.specs.Options.{okOr, Cases}
 use Rattle.std.specs.shelf.Lists.{between}
 use Rattle.std.specs.declared.option.Option.{Option}
 use Rattle.std.specs.declared.option.Option.the-variants.{Some, None}
-use Rattle.std.specs.declared.result.Result.the-variants.{Ok, Err}
+use Rattle.std.specs.declared.result.Result.the-variants.{Err}
 use Rattle.std.proofs.shelf.Lists.{length-take-le}
 use Rattle.std.proofs.shelf.Parts.{first-rest}
 use Rattle.broker.specs.declared.call.Call.{Call}
-use Rattle.script.specs.declared.faults.Unread.{Unread}
 use Rattle.script.specs.declared.faults.Unread.the-variants.{Count}
 use Rattle.script.specs.declared.verbs.Verb.{Verb}
 use Rattle.script.specs.declared.verbs.Verb.the-variants.{Ask, Take, Release, GiveBack, Question}
-use Rattle.script.specs.Format.{Fitting, Reads-as, spelled, verb-of, numbers-of}
+use Rattle.script.specs.Format.{Fitting, Reads-as, verb-of, numbers-of}
 use Rattle.script.specs.Letters.{letter}
 use Rattle.script.specs.Limits.{most-numbers}
 use Rattle.script.specs.Spaced.{spaced, Small, Holds}

@@ -1,14 +1,14 @@
 -- The numbers of a line, read field by field.
-use mathlib.Core.Path.{_≡_, refl, sym, ap, subst, _∙_}
+use mathlib.Core.Path.{_≡_, refl, sym, ap, _∙_}
 use mathlib.Core.List.{List, [], _∷_, _++_, append-assoc, append-nil}
-use Prim.Native.Nat.{ℕ, zero, suc, _+_, _-_, _^_, _≤_, _<_}
+use Prim.Native.Nat.{ℕ, suc, _+_, _-_, _^_, _≤_, _<_}
 use native.Mathlib.Omega.{arith}
 use native.Mathlib.Nat.{add-zero}
-use lib.ListN.{length, getD, take, drop, set, length-append, length-drop, length-set, take-append-drop, length-take}
+use lib.ListN.{length, getD, take, drop, set, length-drop, length-set, take-append-drop}
 use lib.Seq.{getD-take, getD-drop, length-take-le}
 use Rattle.std.specs.Written.{decimal}
-use Rattle.std.specs.shelf.Lists.{All, between}
-use Rattle.std.proofs.shelf.Lists.{drop-more, drop-all, take-more, take-more-set, length-push, drop-drop}
+use Rattle.std.specs.shelf.Lists.{between}
+use Rattle.std.proofs.shelf.Lists.{drop-more, drop-all, take-more-set, length-push, drop-drop}
 use Rattle.script.specs.Spaced.{field, spaced, Small, Holds}
 use Rattle.script.specs.Ends.{Ended}
 use Rattle.script.specs.Limits.{most-numbers}
@@ -89,19 +89,6 @@ pub record Sofar (bytes : List ℕ) (at count : ℕ) (numbers : List ℕ) : Type
   pub kept : count ≤ most-numbers → take count numbers ≡ seen
   -- what the bytes may spell goes on here
   pub left : (ms : List ℕ) → Small ms → bytes ≡ spaced ms → (ks : List ℕ) × Small ks × (drop at bytes ≡ spaced ks)
-
-pub none-yet : (bytes numbers : List ℕ) → length numbers ≡ most-numbers → Sofar bytes 0 0 numbers
-none-yet bytes numbers room = record {
-  within = omega arith;
-  fewer = omega arith;
-  room = room;
-  seen = [];
-  small = tt;
-  written = refl;
-  many = refl;
-  kept = λ _. refl;
-  left = λ ms s e. (ms, s, e);
-}
 
 module _ {bytes : List ℕ} {at count : ℕ} {numbers : List ℕ} (old : Sofar bytes at count numbers) where
   pub done : length bytes ≤ at → Holds numbers count bytes

@@ -9,7 +9,6 @@ use lib.ListN.{length, getD, take}
 use Rattle.std.specs.Results.{okPart}
 use Rattle.std.specs.declared.option.Option.the-variants.{Some, None}
 use Rattle.std.specs.declared.result.Result.{Result}
-use Rattle.std.specs.declared.result.Result.the-variants.{Ok, Err}
 use Rattle.std.proofs.shelf.Lists.{take-more, length-take-le}
 use Rattle.std.proofs.shelf.Tests.{cases-lt, lt-ltb, le-ltb, cond-true, cond-false}
 use Rattle.claims.specs.declared.Demand.{Demand}

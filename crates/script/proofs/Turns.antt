@@ -1,10 +1,9 @@
 -- A script is answered line by line.
 use mathlib.Core.Path.{_≡_, refl, sym, ap, subst, _∙_}
-use mathlib.Core.Bool.{Bool, true, false}
+use mathlib.Core.Bool.{false}
 use mathlib.Core.List.{List, [], _∷_, _++_, append-assoc, append-nil}
 use Prim.Native.Nat.{ℕ, _+_, _-_, _≤_, _<_}
 use native.Mathlib.Omega.{arith}
-use lib.Dec.{eqb}
 use lib.ListN.{length, drop, length-drop}
 use borrow.Author.Tests.{ne-eqb}
 use Rattle.std.specs.shelf.Lists.{between}
@@ -14,7 +13,7 @@ use Rattle.script.specs.Ends.{Ended}
 use Rattle.script.specs.Limits.{most-bytes}
 use Rattle.script.specs.Lines.{before, lines-of}
 use Rattle.script.specs.Rows.{line-feed, row-bytes}
-use Rattle.script.specs.Scripts.{Line, Rows, Answered, Broken-off, Stopped}
+use Rattle.script.specs.Scripts.{Line, Rows, Answered, Stopped}
 use Rattle.script.proofs.Splits.{Free, Opens, part-whole, part-length, part-free, rest-opens}
 
 line-fed : (part rest : List ℕ) → Free line-feed part → lines-of (part ++ (line-feed ∷ rest)) ≡ part ∷ lines-of rest
@@ -58,18 +57,6 @@ module _ {S : Type 0} (Deals : S → Call → List ℕ → S → Type 0) where
     pub rows : List ℕ
     pub added : now ≡ old ++ rows
     pub told : Rows Deals 1 s first rows t
-
-  pub none-yet : (s : S) (script old : List ℕ) → Sofar s script old 0 0 s old
-  none-yet s script old = record {
-    few = omega arith;
-    within = omega arith;
-    first = [];
-    cut = refl;
-    many = refl;
-    rows = [];
-    added = sym (append-nil old);
-    told = (refl, refl);
-  }
 
   module _ {s : S} {script old : List ℕ} {at n : ℕ} {t : S} {now : List ℕ} (was : Sofar s script old at n t now) where
     module _ (end : ℕ) (words : List ℕ) (u : S) (l : at < length script) (h : Ended script at line-feed end) (told : Line Deals (n + 1) t (between at end script) words u) where

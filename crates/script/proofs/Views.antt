@@ -3,10 +3,10 @@ use mathlib.Core.Path.{_≡_, refl, sym, ap, subst, _∙_}
 use mathlib.Core.Logic.{⊎-elim}
 use mathlib.Core.Bool.{cond}
 use mathlib.Core.List.{List, [], _∷_, _++_, append-nil}
-use Prim.Native.Nat.{ℕ, _+_, _≤_, _<_}
+use Prim.Native.Nat.{ℕ, _+_, _<_}
 use native.Mathlib.Omega.{arith}
 use lib.ListN.{length}
-use Rattle.std.specs.Results.{Cases, isOk}
+use Rattle.std.specs.Results.{isOk}
 use Rattle.std.specs.declared.result.Result.{Result}
 use Rattle.std.specs.declared.result.Result.the-variants.{Ok, Err}
 use Rattle.std.proofs.shelf.Tests.{cases-lt}
@@ -18,14 +18,14 @@ use Rattle.broker.specs.declared.call.Answer.{Answer}
 use Rattle.broker.specs.declared.call.Call.{Call}
 use Rattle.broker.specs.declared.desk.Broker.{Broker}
 use Rattle.broker.specs.Calls.{call-of, answer-of}
-use Rattle.broker.specs.Steps.{Sound, Steps}
+use Rattle.broker.specs.Steps.{Sound}
 use Rattle.broker.specs.View.{view}
 use Rattle.script.specs.declared.faults.ScriptFault.{ScriptFault}
 use Rattle.script.specs.declared.faults.ScriptFault.the-variants.{TooLong}
 use Rattle.script.specs.Limits.{most-bytes}
 use Rattle.script.specs.Rows.{worded, said, row-bytes}
 use Rattle.script.specs.Runs.{replied, Answers-line, by-broker, by-machine, Runs}
-use Rattle.script.specs.Scripts.{Line, Rows, Answered, Stopped, Settled}
+use Rattle.script.specs.Scripts.{Line, Rows, Settled}
 
 -- where each call keeps what is sound and is dealt with alike under a view, so is a script
 module _ {S U : Type 0} (Deals : S → Call → List ℕ → S → Type 0) (Deals′ : U → Call → List ℕ → U → Type 0) (seen : S → U) (sound : S → Type 0) (each : (s : S) (c : Call) (w : List ℕ) (t : S) → sound s → Deals s c w t → sound t × Deals′ (seen s) c w (seen t)) where

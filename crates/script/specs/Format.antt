@@ -18,6 +18,7 @@ use Rattle.script.specs.declared.verbs.Verb.the-variants as verbs
 use Rattle.script.specs.declared.faults.Unread.{Unread}
 use Rattle.script.specs.declared.faults.Unread.the-variants.{Letter, Number, Count}
 use Rattle.script.specs.Letters.{letter}
+use Rattle.script.specs.Limits.{demand-size}
 use Rattle.script.specs.Spaced.{spaced, Small}
 
 -- three numbers for each demand
@@ -46,7 +47,7 @@ spelled c = letter (verb-of c) ∷ spaced (numbers-of c)
 
 -- the numbers of none to four demands
 abbrev pub Drafted : ℕ → Type 0
-Drafted count = (k : ℕ) × (k ≤ most-demands) × (count ≡ 3 * k)
+Drafted count = (k : ℕ) × (k ≤ most-demands) × (count ≡ demand-size * k)
 
 -- how many numbers a call may have
 abbrev pub Fitting : Verb → ℕ → Type 0

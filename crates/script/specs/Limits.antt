@@ -6,6 +6,10 @@ use Rattle.machine.specs.Limits.{most-demands}
 abbrev pub most-bytes : ℕ
 most-bytes = 65535
 
--- as many numbers as a call may have: an ask has three, and three for each demand of its draft
+-- as many numbers as a demand has
+abbrev pub demand-size : ℕ
+demand-size = 3
+
+-- as many numbers as a call may have: an ask has three, and those of its demands
 abbrev pub most-numbers : ℕ
-most-numbers = 3 + 3 * most-demands
+most-numbers = 3 + demand-size * most-demands

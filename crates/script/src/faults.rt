@@ -1,5 +1,4 @@
 ghost use mathlib.Core.Path.{_≡_};
-ghost use Rattle.std.specs.declared.result.Result.the-variants.{Ok, Err};
 ghost use Rattle.script.specs.Faults.{unread-number, fault-number, at-line, unread-at, refused-at};
 use machine::Refusal;
 use machine::RefusalDebug;
@@ -37,7 +36,7 @@ pub struct OnLine<E> {
 }
 
 // Says on which line it went wrong.
-pub fn on_line<T, E>(line: u32, result: Result<T, E>) -> Result<T, OnLine<E>>
+pub(crate) fn on_line<T, E>(line: u32, result: Result<T, E>) -> Result<T, OnLine<E>>
     ensures { λ r. ⌜ r ≡ at-line line result ⌝ }
 {
     match result {
@@ -70,6 +69,7 @@ impl ScriptFault {
     }
 }
 
+// What is wrong with a line that is not read, with its line.
 pub impl From<OnLine<Unread>> for ScriptFault as ScriptFaultFromUnread {
     ghost converts = { λ at fault. fault ≡ unread-at at };
 

@@ -9,8 +9,11 @@ ghost use Rattle.script.specs.Spaced.{spaced, Small, Holds};
 use machine::MOST_DEMANDS;
 use std::str;
 
-// As many numbers as a call may have: an ask has three, and three for each demand of its draft.
-const MOST_NUMBERS: usize = 3 + 3 * MOST_DEMANDS;
+// As many numbers as a demand has.
+pub(crate) const DEMAND_SIZE: usize = 3;
+
+// As many numbers as a call may have: an ask has three, and those of its demands.
+const MOST_NUMBERS: usize = 3 + DEMAND_SIZE * MOST_DEMANDS;
 
 // What stands before each number of a line.
 const SPACE: u8 = b' ';
@@ -21,7 +24,7 @@ const PLUS: u8 = b'+';
 const ZERO: u8 = b'0';
 
 // The first place from `from` on where `mark` stands, or else the length.
-pub fn end_of(bytes: &[u8], from: usize, mark: u8) -> usize
+pub(crate) fn end_of(bytes: &[u8], from: usize, mark: u8) -> usize
     requires { ⌜ from ≤ length (now bytes) ⌝ }
     ensures { λ r. ⌜ Ended (now (bytes .entry)) from mark r ⌝ }
 {
@@ -53,7 +56,7 @@ fn number(digits: &[u8]) -> Option<u32>
 
 // The numbers of a line: all are counted, and as many as a call may have are kept.
 #[derive(Drop)]
-pub struct Fields {
+pub(crate) struct Fields {
     numbers: [u32; MOST_NUMBERS],
     count: usize,
     ghost whole: { length numbers ≡ most-numbers },
@@ -61,7 +64,7 @@ pub struct Fields {
 
 impl Fields {
     // The numbers, unless no call has so many.
-    pub fn as_slice(&self) -> Option<&[u32]>
+    pub(crate) fn as_slice(&self) -> Option<&[u32]>
         ensures { λ r. ⌜ Cases r (most-numbers < now (self .entry) .count) (λ s. (now (self .entry) .count ≤ most-numbers) × (now s ≡ take (now (self .entry) .count) (now (self .entry) .numbers))) ⌝ }
     {
         if self.count > MOST_NUMBERS {
@@ -81,7 +84,7 @@ fn keep(numbers: &mut [u32], place: usize, number: u32)
 }
 
 // The numbers after the letter, if each is a space and a number.
-pub fn read_fields(bytes: &[u8]) -> Option<Fields>
+pub(crate) fn read_fields(bytes: &[u8]) -> Option<Fields>
     ensures { λ r. ⌜ Cases r ((ns : _) → Small ns → now (bytes .entry) ≡ spaced ns → ⊥) (λ f. Holds (f .numbers) (f .count) (now (bytes .entry))) ⌝ }
 {
     let mut numbers = [0u32; MOST_NUMBERS];

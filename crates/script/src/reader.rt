@@ -4,6 +4,7 @@ ghost use Rattle.std.specs.Options.{Cases};
 ghost use Rattle.broker.specs.Drafts.{demands-of};
 ghost use Rattle.script.specs.Format.{triples, verb-of, numbers-of, Drafted, Fitting, Reads-as, One-reading, Spelled-is-read};
 use crate::faults::Unread;
+use crate::fields::DEMAND_SIZE;
 use crate::fields::read_fields;
 use crate::verbs::Verb;
 use crate::verbs::from_letter;
@@ -12,9 +13,6 @@ use broker::Draft;
 use claims::Demand;
 use claims::Party;
 use claims::PromiseNumber;
-
-// As many numbers as a demand has.
-const DEMAND_SIZE: usize = 3;
 
 // A draft of these numbers, three for each demand, if a draft may have so many.
 fn read_draft(numbers: &[u32]) -> Option<Draft>

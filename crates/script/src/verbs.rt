@@ -4,7 +4,7 @@ ghost use Rattle.script.specs.Letters.{letter};
 
 // What a line asks for, by its first letter.
 #[derive(Clone, Copy)]
-pub enum Verb {
+pub(crate) enum Verb {
     Ask,
     Take,
     Release,
@@ -13,7 +13,7 @@ pub enum Verb {
 }
 
 // The verb of a letter, if it is one's.
-pub fn from_letter(first: char) -> Option<Verb>
+pub(crate) fn from_letter(first: char) -> Option<Verb>
     ensures { λ r. ⌜ Cases r ((v : Verb) → letter v ≡ first → ⊥) (λ v. letter v ≡ first) ⌝ }
 {
     match first {
