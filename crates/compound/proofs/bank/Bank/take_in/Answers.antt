@@ -41,7 +41,7 @@ returns-then-claim-self g c =
     let q = λ (h : Bank-sound (g .F·Resource) (g .S·Resource) s). asked (s .«open») r m x (c .is-known .ensures) (c .reads .ensures h) (c .if-not-is-known-reads .left) (c .claim .ensures h) (c .if-is-some .ensures tt) in
     let room = λ (h : Bank-sound (g .F·Resource) (g .S·Resource) s). fewer-open (s .«open») m (q h .is-open) (c .count .ensures h) (c .if-count-ge-MOST-CLAIMS .left) in
     let j = λ (h : Bank-sound (g .F·Resource) (g .S·Resource) s). joint (g .F·Resource) (g .S·Resource) (standing (g .F·Resource) (f .lawful) (f .rising) (f .carried) (f .read)) (standing (g .S·Resource) (t .lawful) (t .rising) (t .carried) (t .read)) s h (q h .is-open) in
-    let l : low (s .split) x ≡ true = le-leb (x .demand .shelf) (s .split) (c .if-claim-self .taken) in
+    let l : low (s .split) x ≡ true = le-leb (x .demand .shelf) (s .split) (omega (arith, c .if-claim-self .taken)) in
     let d = c .hand-on .ensures in
     record {
       kept = λ h. (d .kept (h .0), h .1, λ o. sides-low (j h) x (q h .new) (room h) l (d .placed (h .0)));
@@ -59,7 +59,7 @@ returns-else-claim-self g c =
     let q = λ (h : Bank-sound (g .F·Resource) (g .S·Resource) s). asked (s .«open») r m x (c .is-known .ensures) (c .reads .ensures h) (c .if-not-is-known-reads .left) (c .claim .ensures h) (c .if-is-some .ensures tt) in
     let room = λ (h : Bank-sound (g .F·Resource) (g .S·Resource) s). fewer-open (s .«open») m (q h .is-open) (c .count .ensures h) (c .if-count-ge-MOST-CLAIMS .left) in
     let j = λ (h : Bank-sound (g .F·Resource) (g .S·Resource) s). joint (g .F·Resource) (g .S·Resource) (standing (g .F·Resource) (f .lawful) (f .rising) (f .carried) (f .read)) (standing (g .S·Resource) (t .lawful) (t .rising) (t .carried) (t .read)) s h (q h .is-open) in
-    let l : low (s .split) x ≡ false = lt-leb (x .demand .shelf) (s .split) (c .if-claim-self .left) in
+    let l : low (s .split) x ≡ false = lt-leb (x .demand .shelf) (s .split) (omega (arith, c .if-claim-self .left)) in
     let d = c .hand-on-else-claim-self .ensures in
     record {
       kept = λ h. (h .0, d .kept (h .1), λ o. sides-high (j h) x (q h .new) (room h) l (d .placed (h .1)));
