@@ -1,4 +1,4 @@
-// The bottom kinds of goods: what stands on one shelf.
+// The bottom kinds of goods, each on a shelf of its own: a pool of like units, and goods that are asked for by number.
 pub use named::Named;
 pub use naming::NamedResource;
 pub use pool::Pool;
