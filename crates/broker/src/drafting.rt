@@ -27,7 +27,7 @@ impl Draft {
     pub fn len(&self) -> usize
         ensures { λ r. ⌜ r ≡ length (demands-of (now (self .entry))) ⌝ }
     {
-        self.count
+        self.as_slice().len()
     }
 
     // One demand more; a full draft refuses it and stands.

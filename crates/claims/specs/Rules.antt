@@ -47,8 +47,12 @@ pub record Laws (r : Rules) : Type 0 where
   pub amounts : (d : Demand) → r .reads d ≡ true → (1 ≤ r .counts d) × (r .counts d ≤ most-units)
   pub nothing : (d : Demand) → r .reads d ≡ false → r .counts d ≡ 0
 
+-- a claim that comes in without a unit, and one that comes in with the unit that it has
 abbrev pub waiting : ClaimKey → Party → Demand → Claim
 waiting k p d = record { key = k; party = p; demand = d; state = Waiting }
+
+abbrev pub seated : ClaimKey → Party → Demand → ItemNumber → Claim
+seated k p d u = record { key = k; party = p; demand = d; state = Out u }
 
 abbrev pub is-party : Party → Bool
 is-party p = leb 1 (p .0) && leb (p .0) last-party

@@ -1,7 +1,7 @@
 // What is promised: demands, claims and the numbers that name them, and the claims of a book in order.
 ghost use mathlib.Core.Path.{_≡_};
 ghost use Rattle.claims.specs.Causes.{cause-number};
-ghost use Rattle.claims.specs.Rules.{is-party};
+ghost use Rattle.claims.specs.Rules.{is-party, waiting as waiting-claim, seated as seated-claim};
 pub use counting::Counting;
 pub use sorted::Claims;
 
@@ -25,23 +25,23 @@ pub const MOST_UNITS: u32 = 60000;
 pub const LAST_UNIT: u32 = 65535;
 
 // Names a promise; no two promises of a broker have the same one.
-#[derive(Clone, Copy, PartialEq, Eq, Debug)]
+#[derive(Clone, Copy)]
 pub struct PromiseNumber(pub u32);
 
 // Names one good of a resource, from 1; 0 stands for a good without a number.
-#[derive(Clone, Copy, PartialEq, Eq, Debug)]
+#[derive(Clone, Copy)]
 pub struct ItemNumber(pub u32);
 
 // Names who holds a promise.
-#[derive(Clone, Copy, PartialEq, Eq, Debug)]
+#[derive(Clone, Copy)]
 pub struct Party(pub u32);
 
 // Names a claim in a book.
-#[derive(Clone, Copy, PartialEq, Eq, Debug)]
+#[derive(Clone, Copy)]
 pub struct ClaimKey(pub u64);
 
 // What is wanted of one shelf; what the two numbers mean is the shelf's affair.
-#[derive(Clone, Copy, PartialEq, Eq, Debug)]
+#[derive(Clone, Copy)]
 pub struct Demand {
     pub shelf: u32,
     pub first: u32,
@@ -49,14 +49,14 @@ pub struct Demand {
 }
 
 // A claim waits for a unit, or is out with one.
-#[derive(Clone, Copy, PartialEq, Eq, Debug)]
+#[derive(Clone, Copy)]
 pub enum ClaimState {
     Waiting,
     Out(ItemNumber),
 }
 
 // A party's right to one demand's goods, under its key.
-#[derive(Clone, Copy, PartialEq, Eq, Debug)]
+#[derive(Clone, Copy)]
 pub struct Claim {
     pub key: ClaimKey,
     pub party: Party,
@@ -65,7 +65,7 @@ pub struct Claim {
 }
 
 // Why a resource turns a call away.
-#[derive(Clone, Copy, PartialEq, Eq, Debug)]
+#[derive(Clone, Copy)]
 pub enum Cause {
     // the party is none, or the demand is not read
     Unreadable,
@@ -88,7 +88,7 @@ pub enum Cause {
 }
 
 // A refusal of a resource: its cause, and the key that the call was for.
-#[derive(Clone, Copy, PartialEq, Eq, Debug)]
+#[derive(Clone, Copy)]
 pub struct Fault {
     pub cause: Cause,
     pub key: ClaimKey,
@@ -100,6 +100,34 @@ impl Party {
         ensures { λ r. ⌜ r ≡ is-party self ⌝ }
     {
         (1 <= self.0) & (self.0 <= LAST_PARTY)
+    }
+}
+
+impl Claim {
+    // A claim that comes in without a unit.
+    pub fn waiting(key: ClaimKey, party: Party, demand: Demand) -> Claim
+        ensures { λ r. ⌜ r ≡ waiting-claim key party demand ⌝ }
+    {
+        let state = ClaimState::Waiting;
+        Claim {
+            key,
+            party,
+            demand,
+            state,
+        }
+    }
+
+    // A claim that comes in with the unit that it has.
+    pub fn seated(key: ClaimKey, party: Party, demand: Demand, unit: ItemNumber) -> Claim
+        ensures { λ r. ⌜ r ≡ seated-claim key party demand unit ⌝ }
+    {
+        let state = ClaimState::Out(unit);
+        Claim {
+            key,
+            party,
+            demand,
+            state,
+        }
     }
 }
 

@@ -4,8 +4,6 @@ ghost use Rattle.machine.specs.Refusals.{refusal-number, not-carried-for};
 ghost use Rattle.machine.specs.Slots.{slot-number, met};
 ghost use Rattle.machine.specs.Reached.{Stays-consistent};
 use claims::Fault;
-use claims::FaultDebug;
-use claims::FaultPartialEq;
 
 // As many promises as may live at once.
 pub const MOST_PROMISES: usize = 64;
@@ -20,7 +18,7 @@ pub const MOST_MINUTES: u32 = 20160;
 pub const LAST_NUMBER: u32 = 4294967295;
 
 // Why a broker turns a call away, in the order in which the questions are put.
-#[derive(Clone, Copy, PartialEq, Eq, Debug)]
+#[derive(Clone, Copy)]
 pub enum Refusal {
     // the party is not 1 to 32
     NotAParty,
@@ -74,7 +72,7 @@ pub impl From<Fault> for Refusal as RefusalFromFault {
 }
 
 // What stands under a promise number: nothing, or a promise in its state.
-#[derive(Clone, Copy, PartialEq, Eq, Debug)]
+#[derive(Clone, Copy)]
 pub enum Slot {
     Empty,
     Promised,
@@ -82,7 +80,7 @@ pub enum Slot {
 }
 
 // What can happen to a promise.
-#[derive(Clone, Copy, PartialEq, Eq, Debug)]
+#[derive(Clone, Copy)]
 pub enum Event {
     Take,
     Release,

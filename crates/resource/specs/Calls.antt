@@ -10,10 +10,8 @@ use Rattle.claims.specs.declared.Cause.the-variants.{NoSuchKey, AlreadyOut}
 use Rattle.claims.specs.declared.Claim.{Claim}
 use Rattle.claims.specs.declared.ClaimKey.{ClaimKey}
 use Rattle.claims.specs.declared.ClaimState.the-variants.{Waiting, Out}
-use Rattle.claims.specs.declared.Demand.{Demand}
 use Rattle.claims.specs.declared.Fault.{Fault}
 use Rattle.claims.specs.declared.ItemNumber.{ItemNumber}
-use Rattle.claims.specs.declared.Party.{Party}
 use Rattle.claims.specs.Book.{Book, find, without, out}
 use Rattle.claims.specs.Rules.{Rules, refusal, answered, added, lifted}
 use Rattle.resource.specs.Draws.{drawn}
@@ -29,10 +27,6 @@ pub record Lifted (k : ClaimKey) (r : Rules) (b : Book) (answer : Result (Unit {
   pub same : r′ ≡ r
   pub value : answer ≡ lifted k (find b (k .0))
   pub after : b′ ≡ without (k .0) b
-
--- a claim that comes in with the unit that it has
-abbrev pub seated : ClaimKey → Party → Demand → ItemNumber → Claim
-seated k p d u = record { key = k; party = p; demand = d; state = Out u }
 
 -- why what stands under a key does not go out, if it does not
 abbrev pub kept-in : Option Claim → Option Cause

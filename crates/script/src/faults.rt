@@ -1,11 +1,9 @@
 ghost use mathlib.Core.Path.{_≡_};
 ghost use Rattle.script.specs.Faults.{unread-number, fault-number, at-line, unread-at, refused-at};
 use machine::Refusal;
-use machine::RefusalDebug;
-use machine::RefusalPartialEq;
 
 // What is wrong with a line that is not read.
-#[derive(Clone, Copy, PartialEq, Eq, Debug)]
+#[derive(Clone, Copy)]
 pub enum Unread {
     // its first byte is no call's letter
     Letter,
@@ -29,7 +27,7 @@ impl Unread {
 }
 
 // What went wrong on a line.
-#[derive(Clone, Copy, PartialEq, Eq, Debug)]
+#[derive(Clone, Copy)]
 pub struct OnLine<E> {
     pub line: u32,
     pub fault: E,
@@ -46,7 +44,7 @@ pub(crate) fn on_line<T, E>(line: u32, result: Result<T, E>) -> Result<T, OnLine
 }
 
 // Why a script, or a line of it, is turned away.
-#[derive(Clone, Copy, PartialEq, Eq, Debug)]
+#[derive(Clone, Copy)]
 pub enum ScriptFault {
     // the script has too many bytes
     TooLong,

@@ -1,13 +1,9 @@
 // A booking script: its lines are read, dealt with by a broker, and answered by rows.
 pub use faults::OnLine;
 pub use faults::ScriptFault;
-pub use faults::ScriptFaultDebug;
 pub use faults::ScriptFaultFromRefusal;
 pub use faults::ScriptFaultFromUnread;
-pub use faults::ScriptFaultPartialEq;
 pub use faults::Unread;
-pub use faults::UnreadDebug;
-pub use faults::UnreadPartialEq;
 pub use reader::format_is_exact;
 pub use reader::read_line;
 pub use rows::ScriptFaultDisplay;
