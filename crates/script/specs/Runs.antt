@@ -9,8 +9,7 @@ use Rattle.std.specs.declared.result.Result.the-variants.{Ok, Err}
 use Rattle.claims.specs.Rules.{Rules}
 use Rattle.resource.specs.declared.Resource.{Ghosts}
 use Rattle.machine.specs.declared.Refusal.{Refusal}
-use Rattle.machine.specs.Machine.{State, step}
-use Rattle.machine.specs.Machine.{Answer as Machine-answer}
+use Rattle.machine.specs.Machine.{State, Answer as Machine-answer, step}
 use Rattle.broker.specs.declared.call.Answer.{Answer}
 use Rattle.broker.specs.declared.call.Call.{Call}
 use Rattle.broker.specs.declared.desk.Broker.{Broker}
@@ -39,10 +38,11 @@ pub record Row-of-line {X : Type 0} (m : Ghosts X) {T E : Type 0} (b : Broker X)
   pub told : Answers-line m b n line answer b′
   pub added : new ≡ cond (isOk r) (old ++ row-bytes n (said answer)) old
 
--- a broker, and the machine under the rules of its resource, as those who deal with calls
+-- a broker deals with a call: the words are those for the answer of its step
 abbrev pub by-broker : {X : Type 0} → Ghosts X → Broker X → Call → List ℕ → Broker X → Type 0
 by-broker m b call words b′ = (answer : Machine-answer) × Steps m b (call-of call) answer b′ × (words ≡ worded answer)
 
+-- the machine deals with a call, under these rules
 abbrev pub by-machine : Rules → State → Call → List ℕ → State → Type 0
 by-machine rules s call words t = (answer : Machine-answer) × (_≡_ {A = State × Machine-answer} (t, answer) (step rules s (call-of call))) × (words ≡ worded answer)
 
