@@ -1,0 +1,5 @@
+pub mod Limits
+pub mod Rooms
+pub mod TeePlaces
+pub mod Matching
+pub mod Trail
