@@ -1,102 +1,120 @@
--- The test by backtracking says whether an allotment exists.
-use mathlib.Core.Path.{_≡_, refl, sym, ap, subst, _∙_}
-use mathlib.Core.List.{List, [], _∷_, _++_}
+-- The definition by which claims are carried says whether there is a matching of them.
+use mathlib.Core.Path.{_≡_, refl, sym, ap, subst}
+use mathlib.Core.List.{List, [], _∷_}
 use mathlib.Core.Bool.{Bool, true, false, not, _&&_, _||_}
-use mathlib.Core.Logic.{_⊎_, inl, inr, ⊎-elim}
-use Prim.Native.Nat.{ℕ, zero, suc, _+_, _<_, _≤_}
+use mathlib.Core.Logic.{⊎-elim}
+use Prim.Native.Nat.{ℕ, zero, suc, _<_, _≤_}
 use native.Mathlib.Omega.{arith}
-use native.Mathlib.Numerals.{add-one}
-use lib.ListN.{length, getD, take}
+use lib.ListN.{length, getD}
 use lib.Dec.{eqb}
 use Rattle.std.specs.Orderings.{Decides}
-use Rattle.std.proofs.shelf.Tests.{eqb-true, eqb-false, cases-eq, eq-eqb, ne-eqb, or-cases, or-left, or-right, both-ways, not-true, not-from-false, cases-bool, false≢true}
-use Rattle.std.proofs.shelf.Ways.{decides-below-or, decides-and, decides-not, decides-like}
-use Rattle.std.proofs.shelf.Lists.{getD-append-left, getD-push, length-push, getD-take, length-take-le}
-use Rattle.matching.specs.Matching.{Allots, Matched, some-below, among, covers, Covers-right}
+use Rattle.std.specs.declared.option.Option.the-variants.{Some, None}
+use Rattle.std.specs.shelf.Maps.{nth}
+use Rattle.std.proofs.shelf.Tests.{eq-eqb, eqb-true, false≢true, or-cases, or-left, or-right}
+use Rattle.std.proofs.shelf.Ways.{decides-and, decides-at, decides-below-or, decides-like, decides-not}
+use Rattle.claims.specs.declared.Claim.{Claim}
+use Rattle.claims.specs.declared.Demand.{Demand}
+use Rattle.matching.specs.Matching.{Covers-right, Matching, Serves, among, covers, serves, some-below}
+use Rattle.matching.proofs.Passing.{nth-within, serves-says, serves-shows}
 
--- an allotment of the claims below m that leaves the taken goods alone
-abbrev Rest : (ℕ → ℕ → Bool) → ℕ → List ℕ → ℕ → Type 0
-Rest fit n taken m = (al : List ℕ) × (length al ≡ m) × ((i : ℕ) → i < m → getD al i 0 < n) × ((i : ℕ) → i < m → among (getD al i 0) taken ≡ true → ⊥) × Allots fit m al
+or-is : (q y : Bool) → elim q as (λ _. Bool) [ true ↦ true | false ↦ y ] ≡ (q || y)
+or-is true y = refl
+or-is false y = refl
 
-none : (fit : ℕ → ℕ → Bool) (n : ℕ) (taken : List ℕ) → Rest fit n taken 0
-none fit n taken = ([], refl, (λ i l. absurd (omega arith)), (λ i l e. omega arith), record { suit = λ i l. absurd (omega arith); apart = λ i j l k e. absurd (omega arith) })
+and-is : (q y : Bool) → elim q as (λ _. Bool) [ true ↦ y | false ↦ false ] ≡ (q && y)
+and-is true y = refl
+and-is false y = refl
 
--- what the last claim has, and what the others have
-abbrev Step : (ℕ → ℕ → Bool) → ℕ → List ℕ → ℕ → ℕ → Type 0
-Step fit n taken m g = (fit g m ≡ true) × ((among g taken ≡ true → ⊥) × Rest fit n (g ∷ taken) m)
+module _ {G : Type 0} (F : G → Demand → Bool) (goods : List G) where
+  -- a matching that leaves the taken goods alone
+  abbrev Rest : List ℕ → List Claim → Type 0
+  Rest taken b = (al : List ℕ) × Matching F goods b al × ((i : ℕ) → i < length b → among (getD al i 0) taken ≡ true → ⊥)
 
-join : (fit : ℕ → ℕ → Bool) (n : ℕ) (taken : List ℕ) (m g : ℕ) → g < n → Step fit n taken m g → Rest fit n taken (suc m)
-join fit n taken m g below s =
-    let al = s .1 .1 .0 in
-    let len : length al ≡ m = s .1 .1 .1 in
-    let old : (i : ℕ) → i < m → getD (al ++ (g ∷ [])) i 0 ≡ getD al i 0 = (λ i l. getD-append-left al (g ∷ []) 0 i (omega arith)) in
-    let new : getD (al ++ (g ∷ [])) m 0 ≡ g = getD-push al g 0 m len in
-    let left : (i : ℕ) → i < m → (getD al i 0 ≡ g → ⊥) = (λ i l e. s .1 .1 .3 i l (or-left _ _ (eq-eqb _ _ (sym e)))) in
-    let case : (P : ℕ → ℕ → Type 0) → ((i : ℕ) → i < m → P i (getD al i 0)) → P m g → (i : ℕ) → i < suc m → P i (getD (al ++ (g ∷ [])) i 0) =
-    (λ P f h i l. ⊎-elim
-    (λ (e : i ≡ m). subst (λ (x : ℕ). P x (getD (al ++ (g ∷ [])) x 0)) (sym e) (subst (P m) (sym new) h))
-    (λ (ne : i ≡ m → ⊥). let k : i < m = omega arith in subst (P i) (sym (old i k)) (f i k))
-    (cases-eq i m)) in (
-      al ++ (g ∷ []),
-      omega (arith, length-push al g),
-      case (λ i x. x < n) (s .1 .1 .2) below,
-      case (λ i x. among x taken ≡ true → ⊥) (λ i l e. s .1 .1 .3 i l (or-right _ _ e)) (s .1 .0),
-      record {
-        suit = case (λ i x. fit x i ≡ true) (s .1 .1 .4 .suit) (s .0);
-        apart = λ i j li lj. case (λ i x. x ≡ getD (al ++ (g ∷ [])) j 0 → i ≡ j)
-            (λ i ki. case (λ j y. getD al i 0 ≡ y → i ≡ j) (λ j kj e. s .1 .1 .4 .apart i j ki kj e) (λ e. absurd (left i ki e)) j lj)
-            (case (λ j y. g ≡ y → m ≡ j) (λ j kj e. absurd (left j kj (sym e))) (λ e. refl) j lj)
-            i li;
-      },
-    )
+  -- what the first claim has, and what the others have
+  abbrev Step : List ℕ → Claim → List Claim → ℕ → Type 0
+  Step taken c b g = ((serves F goods (c .demand) (c .state) g ≡ true) × (among g taken ≡ true → ⊥)) × Rest (g ∷ taken) b
 
-part : (fit : ℕ → ℕ → Bool) (n : ℕ) (taken : List ℕ) (m : ℕ) → Rest fit n taken (suc m) → (g : ℕ) × (g < n) × Step fit n taken m g
-part fit n taken m r =
-    let al = r .0 in
-    let len : length al ≡ suc m = r .1 in
-    let all = r .4 in
-    let g : ℕ = getD al m 0 in
-    let same : (i : ℕ) → i < m → getD al i 0 ≡ getD (take m al) i 0 = (λ i l. sym (getD-take m al i 0 l)) in
-    let case : (P : ℕ → ℕ → Type 0) → ((i : ℕ) → i < suc m → P i (getD al i 0)) → (i : ℕ) → i < m → P i (getD (take m al) i 0) =
-    (λ P f i l. subst (P i) (same i l) (f i (omega arith))) in (
-      getD al m 0,
-      r .2 m (omega arith),
-      (
-        all .suit m (omega arith),
+  none : (taken : List ℕ) → Rest taken []
+  none taken = (
+    [],
+    record {
+      whole = refl;
+      served = λ i c e. absurd (let z : _≡_ {A = ℕ} 0 1 = cc in omega arith);
+      apart = λ i j l. absurd (omega arith);
+    },
+    (λ i l. absurd (omega arith)),
+  )
+
+  join-served : (c : Claim) (b : List Claim) (g : ℕ) (al : List ℕ) → Serves F goods c g → Matching F goods b al → (i : ℕ) (x : Claim) → nth (c ∷ b) i ≡ Some x → Serves F goods x (getD (g ∷ al) i 0)
+  join-served c b g al s m zero x e = let same : c ≡ x = cc in subst (λ (y : Claim). Serves F goods y g) same s
+  join-served c b g al s m (suc i) x e = m .served i x e
+
+  join-apart : (b : List Claim) (g : ℕ) (al : List ℕ) → Matching F goods b al → ((i : ℕ) → i < length b → getD al i 0 ≡ g → ⊥) → (i j : ℕ) → i < suc (length b) → j < suc (length b) → getD (g ∷ al) i 0 ≡ getD (g ∷ al) j 0 → i ≡ j
+  join-apart b g al m left zero zero li lj e = refl
+  join-apart b g al m left zero (suc j) li lj e = absurd (left j (omega arith) (sym e))
+  join-apart b g al m left (suc i) zero li lj e = absurd (left i (omega arith) e)
+  join-apart b g al m left (suc i) (suc j) li lj e = ap suc (m .apart i j (omega arith) (omega arith) e)
+
+  join-free : (taken : List ℕ) (b : List Claim) (g : ℕ) (al : List ℕ) → (among g taken ≡ true → ⊥) → ((i : ℕ) → i < length b → among (getD al i 0) (g ∷ taken) ≡ true → ⊥) → (i : ℕ) → i < suc (length b) → among (getD (g ∷ al) i 0) taken ≡ true → ⊥
+  join-free taken b g al here rest zero l e = here e
+  join-free taken b g al here rest (suc i) l e = rest i (omega arith) (or-right (eqb g (getD al i 0)) (among (getD al i 0) taken) e)
+
+  join : (taken : List ℕ) (c : Claim) (b : List Claim) (g : ℕ) → Step taken c b g → Rest taken (c ∷ b)
+  join taken c b g s =
+      let al = s .1 .0 in
+      let m = s .1 .1 in
+      let free = s .1 .2 in
+      let left : (i : ℕ) → i < length b → getD (s .1 .0) i 0 ≡ g → ⊥ = (λ i l e. free i l (or-left (eqb g (getD al i 0)) (among (getD al i 0) taken) (eq-eqb g (getD al i 0) (sym e)))) in (
+        g ∷ al,
+        record {
+          whole = ap suc (m .whole);
+          served = join-served c b g al (serves-says F goods c g (s .0 .0)) m;
+          apart = join-apart b g al m left;
+        },
+        join-free taken b g al (s .0 .1) free,
+      )
+
+  part : (taken : List ℕ) (c : Claim) (b : List Claim) (al : List ℕ) → Matching F goods (c ∷ b) al → ((i : ℕ) → i < suc (length b) → among (getD al i 0) taken ≡ true → ⊥) → (g : ℕ) × (g < length goods) × Step taken c b g
+  part taken c b [] m free = absurd (omega (arith, m .whole))
+  part taken c b (g ∷ al) m free =
+      let s = m .served 0 c refl in (
+        g,
+        nth-within goods g (s .suited .0) (s .suited .1),
         (
-          r .3 m (omega arith),
+          (serves-shows F goods c g s, free 0 (omega arith)),
           (
-            take m al,
-            length-take-le m al (omega arith),
-            case (λ i x. x < n) (r .2),
-            (λ i l e. ⊎-elim
-                (λ (y : eqb (getD al m 0) (getD (take m al) i 0) ≡ true).
-                let z : m ≡ i = all .apart m i (omega arith) (omega arith) (eqb-true _ _ y ∙ sym (same i l)) in omega arith)
-                (λ y. case (λ i x. among x taken ≡ true → ⊥) (r .3) i l y)
-                (or-cases _ _ e)),
+            al,
             record {
-              suit = case (λ i x. fit x i ≡ true) (all .suit);
-              apart = λ i j li lj e. all .apart i j (omega arith) (omega arith) (same i li ∙ e ∙ sym (same j lj));
+              whole = omega (arith, m .whole);
+              served = λ i x e. m .served (suc i) x e;
+              apart = λ i j li lj e. let z = m .apart (suc i) (suc j) (omega arith) (omega arith) e in omega arith;
             },
+            (λ i l e. ⊎-elim
+                (λ (y : eqb g (getD al i 0) ≡ true). let z = m .apart 0 (suc i) (omega arith) (omega arith) (eqb-true g (getD al i 0) y) in omega arith)
+                (λ (y : among (getD al i 0) taken ≡ true). free (suc i) (omega arith) y)
+                (or-cases (eqb g (getD al i 0)) (among (getD al i 0) taken) e)),
           ),
         ),
-      ),
-    )
+      )
 
-decided : (fit : ℕ → ℕ → Bool) (n : ℕ) (taken : List ℕ) (m : ℕ) → Decides (covers fit n taken m) (Rest fit n taken m)
-decided fit n taken zero = ((λ e. none fit n taken), (λ r. refl))
-decided fit n taken (suc m) =
-    decides-like _
-    (λ (w : (g : ℕ) × (g < n) × Step fit n taken m g). join fit n taken m (w .0) (w .1) (w .2))
-    (part fit n taken m)
-    (decides-below-or (λ g. fit g m && (not (among g taken) && covers fit n (g ∷ taken) m)) (Step fit n taken m)
-    (λ k. some-below k (λ g. fit g m && (not (among g taken) && covers fit n (g ∷ taken) m)))
-    (λ g. decides-and _ _ ((λ e. e), (λ e. e)) (decides-and _ _ (decides-not _ ((λ e. e), (λ e. e))) (decided fit n (g ∷ taken) m)))
-    refl (λ _. refl) n)
+  decided : (taken : List ℕ) (b : List Claim) → Decides (covers F goods taken b) (Rest taken b)
+  decided taken [] = ((λ e. none taken), (λ r. refl))
+  decided taken (c ∷ b) =
+      let open-to : ℕ → Bool = (λ g. serves F goods (c .demand) (c .state) g && not (among g taken)) in
+      let test : ℕ → Bool = (λ g. elim (serves F goods (c .demand) (c .state) g && not (among g taken)) as (λ _. Bool) [ true ↦ covers F goods (g ∷ taken) b | false ↦ false ]) in
+      decides-like (some-below (length goods) test)
+      (λ (w : (g : ℕ) × (g < length goods) × Step taken c b g). join taken c b (w .0) (w .2))
+      (λ (r : Rest taken (c ∷ b)). part taken c b (r .0) (r .1) (r .2))
+      (decides-below-or test (Step taken c b) (λ k. some-below k test)
+      (λ g. decides-at (test g) (open-to g && covers F goods (g ∷ taken) b) (and-is (open-to g) (covers F goods (g ∷ taken) b))
+      (decides-and (open-to g) (covers F goods (g ∷ taken) b)
+      (decides-and (serves F goods (c .demand) (c .state) g) (not (among g taken)) ((λ e. e), (λ e. e)) (decides-not (among g taken) ((λ e. e), (λ e. e))))
+      (decided (g ∷ taken) b)))
+      refl (λ n. or-is (test n) (some-below n test)) (length goods))
 
-pub covers-right : Covers-right
-covers-right fit n m =
-    decides-like _
-    (λ (r : Rest fit n [] m). (r .0, r .1, r .2, r .4))
-    (λ (w : Matched fit n m). (w .0, w .1, w .2, (λ i l e. false≢true e), w .3))
-    (decided fit n [] m)
+  pub covers-right : (b : List Claim) → Covers-right F goods b
+  covers-right b =
+      decides-like (covers F goods [] b)
+      (λ (r : Rest [] b). (r .0, r .1))
+      (λ (w : (al : List ℕ) × Matching F goods b al). (w .0, w .1, (λ i l e. false≢true e)))
+      (decided [] b)

@@ -8,7 +8,6 @@ use native.Mathlib.Omega.{arith}
 use lib.ListN.{length, getD}
 use lib.Dec.{eqb}
 use Rattle.std.proofs.shelf.Tests.{eqb-true, eqb-false, cases-eq, cond-true, cond-false, eq-eqb, ne-eqb}
-use Rattle.matching.specs.Matching.{Allots}
 
 -- what stood in the box that is taken away goes where the last stood
 moved : (ℕ → ℕ) → ℕ → ℕ → ℕ → ℕ
@@ -52,14 +51,3 @@ pigeon (suc b) f h box inj =
     (λ (d : f j ≡ h b → ⊥). inj i j (omega arith) (omega arith) (sym (moved-no f (h b) (f (suc b)) i e) ∙ same ∙ moved-no f (h b) (f (suc b)) j d))
     (cases-eq (f j) (h b)))
     (cases-eq (f i) (h b)))
-
--- The claims at the places 0..k of q are closed: each good that suits one is held by one at 1..k. Then they have no goods for all.
-pub stuck : (fit : ℕ → ℕ → Bool) (n k : ℕ) (al q mt : List ℕ) →
-    ((t : ℕ) → t ≤ k → getD q t 0 < n) →
-    ((t s : ℕ) → t ≤ k → s ≤ k → getD q t 0 ≡ getD q s 0 → t ≡ s) →
-    ((t g : ℕ) → t ≤ k → fit g (getD q t 0) ≡ true → (s : ℕ) × (s < k) × (g ≡ getD al (getD q (s + 1) 0) 0)) →
-    Allots fit n mt → ⊥
-stuck fit n k al q mt within distinct closed mat =
-    pigeon k (λ t. getD mt (getD q t 0) 0) (λ s. getD al (getD q (s + 1) 0) 0)
-    (λ t le. closed t (getD mt (getD q t 0) 0) le (mat .suit (getD q t 0) (within t le)))
-    (λ t s lt ls e. distinct t s lt ls (mat .apart (getD q t 0) (getD q s 0) (within t lt) (within s ls) e))

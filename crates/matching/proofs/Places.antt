@@ -1,43 +1,66 @@
--- A test at a place of a list.
-use mathlib.Core.Path.{_≡_, refl, sym, ap, subst, _∙_}
-use mathlib.Core.Logic.{⊎-elim}
+-- The places of a list that has lost or gained one.
+use mathlib.Core.Path.{_≡_, refl, sym, ap}
 use mathlib.Core.List.{List, [], _∷_}
-use mathlib.Core.Bool.{Bool, true, false, _&&_}
+use mathlib.Core.Logic.{_⊎_, inl, inr, ⊎-elim}
 use Prim.Native.Nat.{ℕ, zero, suc, _+_, _<_, _≤_}
 use native.Mathlib.Omega.{arith}
-use lib.ListN.{length, getD}
-use Rattle.std.proofs.shelf.Tests.{false≢true, and-left, cases-eq, and-from, and-parts, eq-eqb, eqb-true}
-use Rattle.matching.specs.Matching.{at-place, ok, takes}
-use Rattle.claims.specs.declared.Claim.{Claim}
-use Rattle.claims.specs.declared.Demand.{Demand}
-use Rattle.matching.specs.Trail.{open-at}
+use lib.ListN.{length, getD, set}
+use Rattle.std.specs.Holes.{removed, inserted}
+use Rattle.std.specs.shelf.Maps.{nth}
 
-pub place-getD : {X : Type 0} (p : X → Bool) (xs : List X) (k : ℕ) (d : X) → k < length xs → at-place p xs k ≡ p (getD xs k d)
-place-getD p [] k d l = absurd (omega arith)
-place-getD p (x ∷ xs) zero d l = refl
-place-getD p (x ∷ xs) (suc k) d l = place-getD p xs k d (omega arith)
+-- where the place j of a list without its place i stood before
+pub skip : ℕ → ℕ → ℕ
+skip zero j = suc j
+skip (suc i) zero = zero
+skip (suc i) (suc j) = suc (skip i j)
 
-pub place-read : {X : Type 0} (p : X → Bool) (xs : List X) (k : ℕ) (x : X) → k < length xs → x ≡ getD xs k x → at-place p xs k ≡ p x
-place-read p xs k x l e = place-getD p xs k x l ∙ ap p (sym e)
+pub skip-cases : (i j : ℕ) → ((j < i) × (skip i j ≡ j)) ⊎ ((i ≤ j) × (skip i j ≡ suc j))
+unfolding skip
+skip-cases zero j = inr (omega arith, refl)
+skip-cases (suc i) zero = inl (omega arith, refl)
+skip-cases (suc i) (suc j) = ⊎-elim (λ (w : (j < i) × (skip i j ≡ j)). inl (omega (arith, w .0), ap suc (w .1))) (λ (w : (i ≤ j) × (skip i j ≡ suc j)). inr (omega (arith, w .0), ap suc (w .1))) (skip-cases i j)
 
-pub place-past : {X : Type 0} (p : X → Bool) (xs : List X) (k : ℕ) → length xs ≤ k → at-place p xs k ≡ false
-place-past p [] k l = refl
-place-past p (x ∷ xs) zero l = absurd (omega arith)
-place-past p (x ∷ xs) (suc k) l = place-past p xs k (omega arith)
+pub skip-less : (i j n : ℕ) → i < n → (j + 1 < n → skip i j < n) × (skip i j < n → j + 1 < n)
+skip-less i j n l = ⊎-elim (λ (w : (j < i) × (skip i j ≡ j)). ((λ m. omega (arith, w .0, w .1)), (λ m. omega (arith, w .0, w .1)))) (λ (w : (i ≤ j) × (skip i j ≡ suc j)). ((λ m. omega (arith, w .0, w .1)), (λ m. omega (arith, w .0, w .1)))) (skip-cases i j)
 
-pub place-within : {X : Type 0} (p : X → Bool) (xs : List X) (k : ℕ) → at-place p xs k ≡ true → k < length xs
-place-within p [] k e = absurd (false≢true e)
-place-within p (x ∷ xs) zero e = omega arith
-place-within p (x ∷ xs) (suc k) e = let h = place-within p xs k e in omega arith
+pub skip-apart : (i j k : ℕ) → skip i j ≡ skip i k → j ≡ k
+unfolding skip
+skip-apart zero j k e = omega arith
+skip-apart (suc i) zero zero e = refl
+skip-apart (suc i) zero (suc k) e = omega arith
+skip-apart (suc i) (suc j) zero e = omega arith
+skip-apart (suc i) (suc j) (suc k) e = ap suc (skip-apart i j k (omega arith))
 
--- what the next open good says of the claim at c
-pub open-none : {G : Type 0} (F : G → Demand → Bool) (goods : List G) (claims : List Claim) (marks : List ℕ) (c : ℕ) (d : Claim) → c < length claims →
-    ((k : ℕ) → open-at F goods marks (getD claims c d) k ≡ false) → (g : ℕ) → ok F goods claims g c ≡ true → getD marks g 0 ≡ 0 → ⊥
-open-none F goods claims marks c d l none g y z =
-    false≢true (sym (none g) ∙ and-from _ _ (sym (place-getD (takes F goods g) claims c d l) ∙ y) (eq-eqb (getD marks g 0) 0 z))
+pub skip-onto : (i k : ℕ) → (k ≡ i → ⊥) → (j : ℕ) × (skip i j ≡ k)
+unfolding skip
+skip-onto zero zero ne = absurd (ne refl)
+skip-onto zero (suc k) ne = (k, refl)
+skip-onto (suc i) zero ne = (zero, refl)
+skip-onto (suc i) (suc k) ne = let w = skip-onto i k (λ e. ne (ap suc e)) in (suc (w .0), ap suc (w .1))
 
-pub open-some : {G : Type 0} (F : G → Demand → Bool) (goods : List G) (claims : List Claim) (marks : List ℕ) (c : ℕ) (d : Claim) → c < length claims →
-    (g : ℕ) → open-at F goods marks (getD claims c d) g ≡ true → (ok F goods claims g c ≡ true) × (getD marks g 0 ≡ 0)
-open-some F goods claims marks c d l g y =
-    let both = and-parts _ _ y in
-    (place-getD (takes F goods g) claims c d l ∙ both .0, eqb-true (getD marks g 0) 0 (both .1))
+pub nth-removed : {X : Type 0} (xs : List X) (i j : ℕ) → nth (removed xs i) j ≡ nth xs (skip i j)
+unfolding skip
+nth-removed [] zero j = refl
+nth-removed [] (suc i) j = refl
+nth-removed (x ∷ xs) zero j = refl
+nth-removed (x ∷ xs) (suc i) zero = refl
+nth-removed (x ∷ xs) (suc i) (suc j) = nth-removed xs i j
+
+pub getD-removed : {X : Type 0} (xs : List X) (i j : ℕ) (d : X) → getD (removed xs i) j d ≡ getD xs (skip i j) d
+unfolding skip
+getD-removed [] zero j d = refl
+getD-removed [] (suc i) j d = refl
+getD-removed (x ∷ xs) zero j d = refl
+getD-removed (x ∷ xs) (suc i) zero d = refl
+getD-removed (x ∷ xs) (suc i) (suc j) d = getD-removed xs i j d
+
+pub removed-inserted : {X : Type 0} (xs : List X) (i : ℕ) (y : X) → i ≤ length xs → removed (inserted xs i y) i ≡ xs
+removed-inserted xs zero y l = refl
+removed-inserted [] (suc i) y l = absurd (omega arith)
+removed-inserted (x ∷ xs) (suc i) y l = ap (λ r. x ∷ r) (removed-inserted xs i y (omega arith))
+
+pub removed-set : {X : Type 0} (xs : List X) (i : ℕ) (y : X) → removed (set xs i y) i ≡ removed xs i
+removed-set [] zero y = refl
+removed-set [] (suc i) y = refl
+removed-set (x ∷ xs) zero y = refl
+removed-set (x ∷ xs) (suc i) y = ap (λ r. x ∷ r) (removed-set xs i y)

@@ -2,4 +2,5 @@ pub mod Limits
 pub mod Rooms
 pub mod TeePlaces
 pub mod Matching
-pub mod Trail
+pub mod Paths
+pub mod Ways

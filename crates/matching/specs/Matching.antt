@@ -1,71 +1,79 @@
--- What an allotment is, and when claims are carried.
+-- What a matching of claims to goods is, when claims are carried, and what admitting one more does.
 use mathlib.Core.Path.{_≡_}
 use mathlib.Core.List.{List, [], _∷_}
 use mathlib.Core.Bool.{Bool, true, false, not, _&&_, _||_}
 use Prim.Native.Nat.{ℕ, zero, suc, _<_, _≤_}
 use lib.ListN.{length, getD}
-use lib.Dec.{eqb}
+use lib.Dec.{eqb, leb, ltb}
+use Rattle.std.specs.Holes.{removed}
 use Rattle.std.specs.Orderings.{Decides}
+use Rattle.std.specs.declared.option.Option.{Option}
+use Rattle.std.specs.declared.option.Option.the-variants.{Some, None}
+use Rattle.std.specs.shelf.Maps.{nth}
 use Rattle.claims.specs.declared.Claim.{Claim}
 use Rattle.claims.specs.declared.ClaimState.{ClaimState}
 use Rattle.claims.specs.declared.ClaimState.the-variants.{Waiting, Out}
 use Rattle.claims.specs.declared.Demand.{Demand}
+use Rattle.claims.specs.declared.ItemNumber.{ItemNumber}
+use Rattle.claims.specs.Limits.{most-claims}
+use Rattle.matching.specs.Limits.{most-goods}
 
--- the test p at place k of a list; false past its end
-abbrev pub at-place : {X : Type 0} → (X → Bool) → List X → ℕ → Bool
-at-place p [] k = false
-at-place p (x ∷ xs) zero = p x
-at-place p (x ∷ xs) (suc k) = at-place p xs k
+-- the good at place g serves the claim c: it suits the claim's demand, and where the claim is out, it is the claim's own unit; the good at place 0 is unit 1
+pub record Serves {G : Type 0} (suits : G → Demand → Bool) (goods : List G) (c : Claim) (g : ℕ) : Type 0 where
+  pub suited : (good : G) × (nth goods g ≡ Some good) × (suits good (c .demand) ≡ true)
+  pub own : (u : ItemNumber) → c .state ≡ Out u → u .0 ≡ suc g
 
--- whether a claim may have the good at g: one that is out has its own unit, and the first good is unit 1
-abbrev pub own : ℕ → ClaimState → Bool
-own g Waiting = true
-own g (Out i) = eqb (i .0) (suc g)
+-- a matching: the allotment has for each claim a good that serves it, and no good twice
+pub record Matching {G : Type 0} (suits : G → Demand → Bool) (goods : List G) (claims : List Claim) (allotment : List ℕ) : Type 0 where
+  pub whole : length allotment ≡ length claims
+  pub served : (i : ℕ) (c : Claim) → nth claims i ≡ Some c → Serves suits goods c (getD allotment i 0)
+  pub apart : (i j : ℕ) → i < length claims → j < length claims → getD allotment i 0 ≡ getD allotment j 0 → i ≡ j
 
--- whether the claim x may have the good at g
-abbrev pub takes : {G : Type 0} → (G → Demand → Bool) → List G → ℕ → Claim → Bool
-takes suits goods g x = own g (x .state) && at-place (λ good. suits good (x .demand)) goods g
+-- a test of what stands somewhere; false where nothing does
+abbrev pub passes : {X : Type 0} → (X → Bool) → Option X → Bool
+passes p None = false
+passes p (Some x) = p x
 
--- whether the claim at c may have the good at g
-abbrev pub ok : {G : Type 0} → (G → Demand → Bool) → List G → List Claim → ℕ → ℕ → Bool
-ok suits goods claims g c = at-place (takes suits goods g) claims c
+-- whether a claim in this state waits, or is out with the good at place g
+abbrev pub waits-or-has : ℕ → ClaimState → Bool
+waits-or-has g Waiting = true
+waits-or-has g (Out u) = eqb (u .0) (suc g)
 
--- an allotment of the claims below m: each has a good that suits it, no good twice
-pub record Allots (fit : ℕ → ℕ → Bool) (m : ℕ) (al : List ℕ) : Type 0 where
-  pub suit : (i : ℕ) → i < m → fit (getD al i 0) i ≡ true
-  pub apart : (i j : ℕ) → i < m → j < m → getD al i 0 ≡ getD al j 0 → i ≡ j
+-- whether the good at place g serves a claim of this demand in this state
+abbrev pub serves : {G : Type 0} → (G → Demand → Bool) → List G → Demand → ClaimState → ℕ → Bool
+serves suits goods d s g = waits-or-has g s && passes (λ good. suits good d) (nth goods g)
 
--- the subject's notion: some list of goods, one for each claim
-abbrev pub Matched : (ℕ → ℕ → Bool) → ℕ → ℕ → Type 0
-Matched fit n m = (al : List ℕ) × (length al ≡ m) × ((i : ℕ) → i < m → getD al i 0 < n) × Allots fit m al
-
+-- some number below n passes a test
 abbrev pub some-below : ℕ → (ℕ → Bool) → Bool
 some-below zero p = false
-some-below (suc n) p = p n || some-below n p
+some-below (suc n) p = elim (p n) [ true ↦ true | false ↦ some-below n p ]
 
 abbrev pub among : ℕ → List ℕ → Bool
 among g [] = false
 among g (x ∷ xs) = eqb x g || among g xs
 
--- by backtracking: the last claim takes a good that is left, the others are covered without it
-abbrev pub covers : (ℕ → ℕ → Bool) → ℕ → List ℕ → ℕ → Bool
-covers fit n taken zero = true
-covers fit n taken (suc m) = some-below n (λ g. fit g m && (not (among g taken) && covers fit n (g ∷ taken) m))
+-- claims are covered by the goods that are not taken: some good serves the first of them, and the others are covered by those that are left
+abbrev pub covers : {G : Type 0} → (G → Demand → Bool) → List G → List ℕ → List Claim → Bool
+covers suits goods taken [] = true
+covers suits goods taken (c ∷ b) = some-below (length goods) (λ g. elim (serves suits goods (c .demand) (c .state) g && not (among g taken)) [ true ↦ covers suits goods (g ∷ taken) b | false ↦ false ])
 
--- each claim can be given a good that suits it, no good twice, each claim that is out having its own unit
+-- whether the goods carry the claims
 abbrev pub carried : {G : Type 0} → (G → Demand → Bool) → List G → List Claim → Bool
-carried suits goods claims = covers (ok suits goods claims) (length goods) [] (length claims)
+carried suits goods claims = covers suits goods [] claims
 
--- an allotment of the claims below m but the one at x
-pub record But (fit : ℕ → ℕ → Bool) (m x : ℕ) (al : List ℕ) : Type 0 where
-  pub suit : (i : ℕ) → i < m → (i ≡ x → ⊥) → fit (getD al i 0) i ≡ true
-  pub apart : (i j : ℕ) → i < m → j < m → (i ≡ x → ⊥) → (j ≡ x → ⊥) → getD al i 0 ≡ getD al j 0 → i ≡ j
+-- claims are carried exactly when there is a matching of them
+abbrev pub Covers-right : {G : Type 0} → (G → Demand → Bool) → List G → List Claim → Type 0
+Covers-right suits goods claims = Decides (carried suits goods claims) ((allotment : List ℕ) × Matching suits goods claims allotment)
 
--- what letting the claim at x have a good beside the others answers, and what the allotment is after
-pub record Admits {G : Type 0} (suits : G → Demand → Bool) (goods : List G) (claims : List Claim) (x : ℕ) (al : List ℕ) (answer : Bool) (al′ : List ℕ) : Type 0 where
-  pub answer-is : But (ok suits goods claims) (length al) x al → answer ≡ carried suits goods claims
-  pub taken : But (ok suits goods claims) (length al) x al → answer ≡ true → Allots (ok suits goods claims) (length al) al′
-  pub kept : answer ≡ false → al′ ≡ al
+-- whether there are not too many goods and claims, an entry of the allotment for each claim, and a claim at x
+abbrev pub in-bounds : ℕ → ℕ → ℕ → ℕ → Bool
+in-bounds goods claims allotment x = leb goods most-goods && leb claims most-claims && eqb allotment claims && ltb x claims
 
-abbrev pub Covers-right : Type 0
-Covers-right = (fit : ℕ → ℕ → Bool) (n m : ℕ) → Decides (covers fit n [] m) (Matched fit n m)
+-- what admitting the claim at x beside the others answers, and what the allotment is after
+pub record Admits {G : Type 0} (suits : G → Demand → Bool) (goods : List G) (claims : List Claim) (x : ℕ) (allotment : List ℕ) (answer : Bool) (after : List ℕ) : Type 0 where
+  -- where the others have a matching, it answers whether all claims are carried
+  pub answer-is : Matching suits goods (removed claims x) (removed allotment x) → answer ≡ (in-bounds (length goods) (length claims) (length allotment) x && carried suits goods claims)
+  -- if they are, the allotment is then a matching of all
+  pub taken : Matching suits goods (removed claims x) (removed allotment x) → answer ≡ true → Matching suits goods claims after
+  -- if they are not, the allotment stays
+  pub kept : answer ≡ false → after ≡ allotment

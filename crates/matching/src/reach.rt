@@ -1,101 +1,114 @@
-ghost use lib.ListN.{getD, length};
-ghost use mathlib.Core.Bool.{Bool, true, false};
-ghost use mathlib.Core.List.{List};
+ghost use lib.ListN.{length};
 ghost use mathlib.Core.Path.{_≡_};
-ghost use Prim.Native.Nat.{ℕ, _+_, _<_, _≤_};
+ghost use Prim.Native.Nat.{_<_, _≤_};
+ghost use Rattle.claims.specs.Limits.{most-claims};
 ghost use Rattle.matching.specs.Limits.{most-goods};
-ghost use Rattle.matching.specs.Matching.{Allots, But, ok, own};
-ghost use Rattle.matching.specs.Trail.{open-at, Trail, Way};
-ghost use Rattle.std.specs.Options.{Cases as BySome};
+ghost use Rattle.matching.specs.Matching.{waits-or-has as waits-or-has-it};
+ghost use Rattle.matching.specs.Paths.{Blank, First-from, Holders, fits, is-open};
+ghost use Rattle.matching.specs.Ways.{Leads};
+use crate::MOST_GOODS;
 use crate::sheet::Sheet;
 use crate::suits::Suits;
 use claims::Claim;
 use claims::ClaimState;
+use claims::Demand;
 
-// Where a path ends: a free good, and the place in the queue of the claim that it suits.
+// Where the way from a new claim ends.
 #[derive(Clone, Copy)]
-pub(crate) struct Found {
-    pub(crate) place: usize,
-    pub(crate) good: usize,
+pub(crate) enum Way {
+    // at a free good, and at the place in the queue of the claim that is to have it
+    Found { place: usize, good: usize },
+    // nowhere: so many claims were reached, and there are too few goods for them
+    Short { reached: usize },
 }
 
-// Whether a claim in this state may have the good at `g`.
-fn may_have(state: ClaimState, g: usize) -> bool
-    requires { ⌜ g < most-goods ⌝ }
-    ensures { λ r. ⌜ r ≡ own g state ⌝ }
+// Whether a claim in this state waits, or is out with the good at `place`.
+fn waits_or_has(state: ClaimState, place: usize) -> bool
+    requires { ⌜ place < most-goods ⌝ }
+    ensures { λ r. ⌜ r ≡ waits-or-has-it place state ⌝ }
 {
     match state {
         ClaimState::Waiting => true,
-        ClaimState::Out(unit) => unit.0 as usize == g + 1,
+        ClaimState::Out(unit) => unit.0 as usize == place + 1,
     }
 }
 
-// The first good that bears no mark and that the claim may have.
-fn next_open<G: Suits>(goods: &[G], sheet: &Sheet, claim: Claim) -> Option<usize>
+// The first good from the place `from` on that bears no mark and that a claim of this demand in this state may have.
+fn next_open<G: Suits>(
+    goods: &[G],
+    sheet: &Sheet,
+    demand: Demand,
+    state: ClaimState,
+    from: usize,
+) -> Option<usize>
     requires few { ⌜ length (now goods) ≤ most-goods ⌝ }
     requires wide { ⌜ length (now goods) ≤ length (now (now sheet .0)) ⌝ }
-    ensures { λ r. ⌜ BySome r ((k : ℕ) → open-at suiting (now (goods .entry)) (now (now (sheet .entry) .0)) claim k ≡ false) (λ g. (g < length (now (goods .entry))) × (open-at suiting (now (goods .entry)) (now (now (sheet .entry) .0)) claim g ≡ true)) ⌝ }
+    ensures { λ r. ⌜ First-from (is-open suiting (now (goods .entry)) (now (now (sheet .entry) .0)) demand state) from r ⌝ }
 {
-    for g in 0..goods.len() {
-        if (may_have(claim.state, g) & goods[g].suits(claim.demand)) & (sheet.0[g] == 0) {
+    for g in from..goods.len() {
+        if (waits_or_has(state, g) & goods[g].suits(demand)) & (sheet.0[g] == 0) {
             return Some(g);
         }
     }
     None
 }
 
-// The claim other than `new` that has the good `g`.
-fn holder(al: &[usize], new: usize, g: usize) -> Option<usize>
-    ensures { λ r. ⌜ BySome r ((i : ℕ) → i < length (now (al .entry)) → (i ≡ new → ⊥) → getD (now (al .entry)) i 0 ≡ g → ⊥) (λ i. (i < length (now (al .entry))) × (i ≡ new → ⊥) × (getD (now (al .entry)) i 0 ≡ g)) ⌝ }
+// For each good the claim that has it, but for the claim at `new`, which has none yet.
+fn holders_of(allotment: &[usize], new: usize) -> [Option<usize>; MOST_GOODS]
+    ensures { λ r. ⌜ Holders (now (allotment .entry)) new r ⌝ }
 {
-    for i in 0..al.len() {
-        if al[i] == g {
-            if i != new {
-                return Some(i);
-            }
+    let mut holders = [None; MOST_GOODS];
+    for i in 0..allotment.len() {
+        let good = allotment[i];
+        if (good < MOST_GOODS) & (i != new) {
+            holders[good] = Some(i);
         }
     }
-    None
+    holders
 }
 
-// Breadth first from the new claim: a path to a free good, or none where no allotment of all the claims exists.
+// Goes breadth first from the claim at `new`, over goods that suit a claim and the claims that have them, to a good
+// that no other claim has. The queue has the claims reached, and `back` for each the place that it was reached from.
 pub(crate) fn reach<G: Suits>(
     goods: &[G],
     claims: &[Claim],
-    al: &[usize],
+    allotment: &[usize],
     new: usize,
     marks: &mut [u8],
     queue: &mut [usize],
-    from: &mut [usize],
-) -> Option<Found>
+    back: &mut [usize],
+) -> Way
     requires few { ⌜ length (now goods) ≤ most-goods ⌝ }
-    requires same { ⌜ length (now claims) ≡ length (now al) ⌝ }
-    requires one { ⌜ new < length (now al) ⌝ }
+    requires same { ⌜ length (now allotment) ≡ length (now claims) ⌝ }
+    requires one { ⌜ new < length (now claims) ⌝ }
     requires wide { ⌜ length (now goods) ≤ length (now marks) ⌝ }
-    requires queued { ⌜ length (now al) < length (now queue) ⌝ }
-    requires reached { ⌜ length (now queue) ≤ length (now from) ⌝ }
-    requires clean { ⌜ ((k : ℕ) → getD (now marks) k 0 ≡ 0) ⌝ }
-    ensures way { λ r. ⌜ BySome r (But (ok suiting (now (goods .entry)) (now (claims .entry))) (length (now (al .entry))) new (now (al .entry)) → (mt : List ℕ) → Allots (ok suiting (now (goods .entry)) (now (claims .entry))) (length (now (al .entry))) mt → ⊥) (λ f. (f .place < length (now (queue .entry))) × Way (length (now (al .entry))) new (now (queue .exit)) (now (from .exit)) (f .place + 1) × (But (ok suiting (now (goods .entry)) (now (claims .entry))) (length (now (al .entry))) new (now (al .entry)) → Trail (ok suiting (now (goods .entry)) (now (claims .entry))) (length (now (al .entry))) new (now (al .entry)) (now (queue .exit)) (now (from .exit)) (f .place) (f .good))) ⌝ }
-    ensures wiped { λ _. ⌜ ((k : ℕ) → getD (now (marks .exit)) k 0 ≡ 0) ⌝ }
+    requires lined { ⌜ length (now claims) ≤ length (now queue) ⌝ }
+    requires led { ⌜ length (now claims) ≤ length (now back) ⌝ }
+    requires clean { ⌜ Blank (now marks) ⌝ }
+    ensures leads { λ r. ⌜ Leads (fits suiting (now (goods .entry)) (now (claims .entry))) (length (now (claims .entry))) new (now (allotment .entry)) (now (queue .exit)) (now (back .exit)) r ⌝ }
+    ensures wiped { λ _. ⌜ Blank (now (marks .exit)) ⌝ }
 {
+    let holders = holders_of(allotment, new);
     let sheet = Sheet(marks);
     queue[0] = new;
     let mut head = 0;
     let mut tail = 1;
-    while (head < tail) & (tail < queue.len()) {
+    while head < tail {
         let claim = claims[queue[head]];
-        match next_open(goods, &sheet, claim) {
-            None => head += 1,
-            Some(good) => match holder(al, new, good) {
-                None => return Some(Found { place: head, good }),
-                Some(h) => {
+        let mut from = 0;
+        while let Some(good) = next_open(goods, &sheet, claim.demand, claim.state, from) {
+            match holders[good] {
+                None => return Way::Found { place: head, good },
+                Some(holder) => {
                     sheet.0[good] = 1;
-                    queue[tail] = h;
-                    from[tail] = head;
-                    tail += 1;
+                    queue[tail] = holder;
+                    back[tail] = head;
                 }
-            },
+            }
+            tail += 1;
+            from = good + 1;
         }
+        head += 1;
     }
-    None
+    Way::Short { reached: tail }
 }

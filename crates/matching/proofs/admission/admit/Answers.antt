@@ -1,61 +1,72 @@
-use mathlib.Core.Path.{_≡_, refl, sym, ap, subst, _∙_}
-use mathlib.Core.Bool.{true, false}
+-- The test is whether all is in bounds; the rest is what the path gives.
+use mathlib.Core.Path.{_≡_, sym, subst}
+use mathlib.Core.Bool.{Bool, true, false}
 use mathlib.Core.List.{List}
-use Prim.Native.Nat.{ℕ, _+_, _-_, _<_, _≤_}
+use Prim.Native.Nat.{ℕ, _+_, _<_, _≤_}
 use native.Mathlib.Omega.{arith}
-use lib.ListN.{length, getD}
-use Rattle.std.proofs.shelf.Tests.{true≢false, false≢true}
-use Rattle.matching.specs.Matching.{Allots, But, ok}
+use lib.ListN.{length}
+use Rattle.matching.specs.Matching.{in-bounds}
+use Rattle.matching.specs.Paths.{Allots, Path, Queued, all-but, all-of, fits}
+use Rattle.matching.proofs.Admitting.{bounds-say, found, new-blank, not-found, out-of-bounds}
 use Rattle.matching.proofs.Covers.{covers-right}
-use Rattle.matching.proofs.Laws.{allots-carried, never-carried, zeros}
+use Rattle.matching.proofs.Reaching.{shortage-none}
 use Rattle.matching.proofs.admission.admit.Needs as need
+
+pub returns-then-not-few-allotment : need.returns-then-not-few-allotment
+returns-then-not-few-allotment g c = record {
+  admits = out-of-bounds (g .G·Suits .suiting) (c .args .goods .now) (c .args .claims .now) (c .args .new) (c .args .allotment .now) (c .if-not-few-allotment .taken);
+  right = covers-right (g .G·Suits .suiting) (c .args .goods .now) (c .args .claims .now);
+}
 
 pub reach-requires : need.reach-requires
 reach-requires g c κs =
+    let p = bounds-say (length (c .args .goods .now)) (length (c .args .claims .now)) (length (c .args .allotment .now)) (c .args .new) (c .if-not-few-allotment .left) in
     record {
-      few = c .pre .few;
-      same = c .pre .same;
-      one = c .pre .one;
-      wide = c .pre .few;
-      queued = omega (arith, c .pre .crowd);
-      reached = omega arith;
-      clean = zeros 256;
+      few = p .0;
+      same = p .2;
+      one = p .3;
+      wide = p .0;
+      lined = p .1;
+      led = p .1;
+      clean = new-blank 256;
     }
 
 pub flip-requires : need.flip-requires
 flip-requires g c κs =
-    let w = c .in-Some .ensures tt .way in
+    let p = bounds-say (length (c .args .goods .now)) (length (c .args .claims .now)) (length (c .args .allotment .now)) (c .args .new) (c .if-not-few-allotment .left) in
+    let w = c .in-Found .ensures tt .leads .reached in
+    let upto = w .upto in
     record {
-      room = c .pre .one;
-      queued = omega (arith, w .0, c .reach .kept .queue);
-      reached = omega (arith, w .0, c .reach .kept .from);
-      way = w .1;
+      one = omega (arith, p .2, p .3);
+      lined = omega (arith, p .1, c .reach .kept .queue);
+      led = omega (arith, p .1, c .reach .kept .back);
+      queued = subst (λ (n : ℕ). Queued n (c .args .new) (c .reach .last .queue) (c .reach .last .back) (c .in-Found .place + 1)) (sym (p .2)) (w .queued);
     }
 
-pub returns-in-Some : need.returns-in-Some
-returns-in-Some g c =
+pub returns-in-Found : need.returns-in-Found
+returns-in-Found g c =
     let F = g .G·Suits .suiting in
     let b = c .args .claims .now in
-    let w = c .in-Some .ensures tt .way in
-    let a : But (ok F (c .args .goods .now) b) (length (c .args .al .now)) (c .args .new) (c .args .al .now) → Allots (ok F (c .args .goods .now) b) (length (c .args .al .now)) (c .flip .last .al) = (λ all. c .flip .ensures (ok F (c .args .goods .now) b) (w .2 all)) in
+    let x : ℕ = c .args .new in
+    let al : List ℕ = c .args .allotment .now in
+    let after : List ℕ = c .flip .last .allotment in
+    let q : List ℕ = c .reach .last .queue in
+    let back : List ℕ = c .reach .last .back in
+    let fit : ℕ → ℕ → Bool = fits F (c .args .goods .now) b in
+    let p = bounds-say (length (c .args .goods .now)) (length b) (length al) x (c .if-not-few-allotment .left) in
     record {
-      admits = record {
-        answer-is = λ all. sym (allots-carried F (c .args .goods .now) b (c .flip .last .al) (omega (arith, c .pre .same, c .flip .kept .al)) (subst (λ (n : ℕ). Allots (ok F (c .args .goods .now) b) n (c .flip .last .al)) (sym (c .pre .same)) (a all)));
-        taken = λ all _. a all;
-        kept = λ e. absurd (true≢false e);
-      };
-      right = covers-right;
+      admits = found F (c .args .goods .now) b x al (c .if-not-few-allotment .left) after (c .flip .kept .allotment)
+          (λ a. subst (λ (n : ℕ). Path fit n x al q back (c .in-Found .place) (c .in-Found .good) → Allots fit (all-but n x) al → Allots fit (all-of n) after) (p .2) (c .flip .ensures fit) (c .in-Found .ensures tt .leads) a);
+      right = covers-right F (c .args .goods .now) b;
     }
 
-pub returns-in-None : need.returns-in-None
-returns-in-None g c =
+pub returns-in-Short : need.returns-in-Short
+returns-in-Short g c =
     let F = g .G·Suits .suiting in
     let b = c .args .claims .now in
+    let p = bounds-say (length (c .args .goods .now)) (length b) (length (c .args .allotment .now)) (c .args .new) (c .if-not-few-allotment .left) in
     record {
-      admits = record {
-        answer-is = λ all. sym (never-carried F (c .args .goods .now) b (λ mt a. c .in-None .ensures tt .way all mt (subst (λ (n : ℕ). Allots (ok F (c .args .goods .now) b) n mt) (c .pre .same) a)));
-        taken = λ all e. absurd (false≢true e);
-        kept = λ _. refl;
-      };
-      right = covers-right;
+      admits = not-found F (c .args .goods .now) b (c .args .new) (c .args .allotment .now) (c .if-not-few-allotment .left)
+          (shortage-none (fits F (c .args .goods .now) b) (length b) (c .args .new) (c .args .allotment .now) (c .reach .last .queue) (c .reach .last .back) (c .in-Short .reached) (p .3) (c .in-Short .ensures tt .leads));
+      right = covers-right F (c .args .goods .now) b;
     }

@@ -1,23 +1,30 @@
+-- A turn is one step back along the path.
 use mathlib.Core.Path.{_≡_, subst}
 use Prim.Native.Nat.{ℕ, _+_, _<_, _≤_}
 use native.Mathlib.Omega.{arith}
 use lib.ListN.{length, getD}
-use Rattle.matching.specs.Trail.{Trail}
-use Rattle.matching.proofs.Trails.{trail-step, trail-end}
+use Rattle.matching.specs.Paths.{Path}
+use Rattle.matching.proofs.Flipping.{path-step, path-end}
 use Rattle.matching.proofs.flip.flip.Needs as need
 
-pub loop-p-again : need.loop-p-again
-loop-p-again c =
-    let low : c .loop-p .p < c .args .place + 1 = omega (arith, c .loop-p .inv .0) in
-    let back : getD (c .args .from .now) (c .loop-p .p) 0 < c .loop-p .p = c .pre .way .back (c .loop-p .p) (c .loop-p-test .taken) low in
-    let room : length (c .args .al .now) ≤ length (c .loop-p .al) = omega (arith, c .loop-p .kept .al) in (
+pub loop-at-again : need.loop-at-again
+loop-at-again c =
+    let n = length (c .args .allotment .now) in
+    let low : c .loop-at .at < c .args .place + 1 = omega (arith, c .loop-at .inv .0) in
+    let earlier : getD (c .args .back .now) (c .loop-at .at) 0 < c .loop-at .at = c .pre .queued .earlier (c .loop-at .at) (c .loop-at-test .taken) low in
+    let room : length (c .args .allotment .now) ≤ length (c .loop-at .allotment) = omega (arith, c .loop-at .kept .allotment) in (
       omega arith,
-      λ fit t. trail-step fit (length (c .args .al .now)) (c .args .new) (c .loop-p .al) (c .args .queue .now) (c .args .from .now) (c .args .place + 1) (c .loop-p .p) (c .loop-p .g) room (c .pre .way) low (c .loop-p-test .taken) (c .loop-p .inv .1 fit t),
+      λ fit w a.
+          let h = c .loop-at .inv .1 fit w a in
+          path-step fit n (c .args .new) (c .loop-at .allotment) (c .args .queue .now) (c .args .back .now) (c .loop-at .at) (c .loop-at .given) room (c .loop-at-test .taken) (h .0) (h .1),
     )
 
 pub returns : need.returns
-returns c = λ fit t.
-    let room : c .args .new < length (c .loop-p .al) = omega (arith, c .pre .room, c .loop-p .kept .al) in
-    let end : c .loop-p .p ≡ 0 = omega arith in
-    trail-end fit (length (c .args .al .now)) (c .args .new) (c .loop-p .al) (c .args .queue .now) (c .args .from .now) (c .loop-p .g) room (c .pre .way .first)
-    (subst (λ (p : ℕ). Trail fit (length (c .args .al .now)) (c .args .new) (c .loop-p .al) (c .args .queue .now) (c .args .from .now) p (c .loop-p .g)) end (c .loop-p .inv .1 fit t))
+returns c = λ fit w a.
+    let n = length (c .args .allotment .now) in
+    let room : c .args .new < length (c .loop-at .allotment) = omega (arith, c .pre .one, c .loop-at .kept .allotment) in
+    let end : c .loop-at .at ≡ 0 = omega arith in
+    let h = c .loop-at .inv .1 fit w a in
+    path-end fit n (c .args .new) (c .loop-at .allotment) (c .args .queue .now) (c .args .back .now) (c .loop-at .given) room
+    (subst (λ (p : ℕ). Path fit n (c .args .new) (c .loop-at .allotment) (c .args .queue .now) (c .args .back .now) p (c .loop-at .given)) end (h .0))
+    (h .1)

@@ -1,12 +1,15 @@
-use Prim.Native.Nat.{ℕ, _<_, _≤_}
-use mathlib.Core.Path.{_≡_}
+-- The path is shorter with each turn, and the claims but the new one keep having goods.
 use mathlib.Core.Bool.{Bool}
+use Prim.Native.Nat.{ℕ, _≤_}
 use lib.ListN.{length}
-use Rattle.matching.specs.Trail.{Trail}
+use Rattle.matching.specs.Paths.{Allots, Path, all-but}
 use Rattle.matching.proofs.flip.flip.Given as given
 
-abbrev pub Inv-loop-p : given.InvT-loop-p
-Inv-loop-p l = (l .p ≤ l .place) × ((fit : ℕ → ℕ → Bool) → Trail fit (length (l .entry .al)) (l .new) (l .entry .al) (l .queue) (l .from) (l .place) (l .good) → Trail fit (length (l .entry .al)) (l .new) (l .al) (l .queue) (l .from) (l .p) (l .g))
+abbrev pub Inv-loop-at : given.InvT-loop-at
+Inv-loop-at l =
+    (l .at ≤ l .place) ×
+    ((fit : ℕ → ℕ → Bool) → Path fit (length (l .entry .allotment)) (l .new) (l .entry .allotment) (l .queue) (l .back) (l .place) (l .good) → Allots fit (all-but (length (l .entry .allotment)) (l .new)) (l .entry .allotment) →
+    Path fit (length (l .entry .allotment)) (l .new) (l .allotment) (l .queue) (l .back) (l .at) (l .given) × Allots fit (all-but (length (l .entry .allotment)) (l .new)) (l .allotment))
 
-abbrev pub μ-loop-p : given.MeasureT-loop-p
-μ-loop-p l = l .p
+abbrev pub μ-loop-at : given.MeasureT-loop-at
+μ-loop-at l = l .at

@@ -1,8 +1,9 @@
-use Prim.Native.Nat.{ℕ, _<_}
+-- No good from the first place looked at up to here is open.
+use Prim.Native.Nat.{ℕ, _<_, _≤_}
 use mathlib.Core.Path.{_≡_}
 use mathlib.Core.Bool.{false}
-use Rattle.matching.specs.Trail.{open-at}
+use Rattle.matching.specs.Paths.{is-open}
 use Rattle.matching.proofs.reach.next_open.Given as given
 
 abbrev pub Inv-loop-g : given.InvT-loop-g
-Inv-loop-g g l = (k : ℕ) → k < l .g → open-at (g .G·Suits .suiting) (l .goods) (l .sheet .0 .now) (l .claim) k ≡ false
+Inv-loop-g g l = (k : ℕ) → l .from ≤ k → k < l .g → is-open (g .G·Suits .suiting) (l .goods) (l .sheet .0 .now) (l .demand) (l .state) k ≡ false
