@@ -116,12 +116,18 @@ module _ {G : Type 0} (F : G → Demand → Bool) (goods : List G) where
       let u = suc (getD (m .0) (at .0) 0) in
       (u, subst (λ (r : Book). carried F goods r ≡ true) (at .1 .sends u) (matching-carried F goods (set b (at .0) (sent u c)) (m .0) (matching-out b (at .0) c (m .0) (at .1 .is) (m .1))))
 
-  -- a claim of a carried book is out only with the number of a good, and that good suits it
-  pub out-unit : (b : Book) (k : ℕ) (c : Claim) (i : ItemNumber) → carried F goods b ≡ true → find b k ≡ Some c → c .state ≡ Out i → (1 ≤ i .0) × (i .0 ≤ length goods)
-  out-unit b k c i e f o =
+  -- a claim of a carried book is out with a good that serves it
+  pub out-serves : (b : Book) (k : ℕ) (c : Claim) (i : ItemNumber) → carried F goods b ≡ true → find b k ≡ Some c → c .state ≡ Out i → (g : ℕ) × (i .0 ≡ suc g) × Serves F goods c g
+  out-serves b k c i e f o =
       let at = spot k b c f in
       let m = carried-matching F goods b e in
       let s = m .1 .served (at .0) c (at .1 .is) in
-      let z = s .own i o in
-      let l = nth-within goods (getD (m .0) (at .0) 0) (s .suited .0) (s .suited .1) in
+      (getD (m .0) (at .0) 0, s .own i o, s)
+
+  -- so its unit is the number of a good
+  pub out-unit : (b : Book) (k : ℕ) (c : Claim) (i : ItemNumber) → carried F goods b ≡ true → find b k ≡ Some c → c .state ≡ Out i → (1 ≤ i .0) × (i .0 ≤ length goods)
+  out-unit b k c i e f o =
+      let w = out-serves b k c i e f o in
+      let z = w .1 in
+      let l = nth-within goods (w .0) (w .2 .suited .0) (w .2 .suited .1) in
       (omega arith, omega arith)

@@ -8,8 +8,8 @@ use crate::suits::Suits;
 use claims::Claim;
 use claims::MOST_CLAIMS;
 
-// Gives the claim at `new` a good beside the others, where all of them can be carried; the others may then have other
-// goods than before.
+// Lets the claim at `new` have a good beside the others, which may get other goods for it; not if they cannot all be
+// carried.
 pub fn admit<G: Suits>(goods: &[G], claims: &[Claim], allotment: &mut [usize], new: usize) -> bool
     ensures admits { λ r. ⌜ Admits suiting (now (goods .entry)) (now (claims .entry)) new (now (allotment .entry)) r (now (allotment .exit)) ⌝ }
     ensures right { λ _. ⌜ Covers-right suiting (now (goods .entry)) (now (claims .entry)) ⌝ }
@@ -18,9 +18,9 @@ pub fn admit<G: Suits>(goods: &[G], claims: &[Claim], allotment: &mut [usize], n
     if !(few & (allotment.len() == claims.len()) & (new < claims.len())) {
         return false;
     }
-    let mut marks = [0u8; MOST_GOODS];
-    let mut queue = [0usize; MOST_CLAIMS];
-    let mut back = [0usize; MOST_CLAIMS];
+    let mut marks = [0; MOST_GOODS];
+    let mut queue = [0; MOST_CLAIMS];
+    let mut back = [0; MOST_CLAIMS];
     match reach(
         goods,
         claims,

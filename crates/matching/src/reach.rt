@@ -13,27 +13,27 @@ use claims::Claim;
 use claims::ClaimState;
 use claims::Demand;
 
-// Where the way from a new claim ends.
+// Where the way from a new claim to a free good ends.
 #[derive(Clone, Copy)]
 pub(crate) enum Way {
-    // at a free good, and at the place in the queue of the claim that is to have it
+    // at this good, which the claim at this place of the queue is to have
     Found { place: usize, good: usize },
-    // nowhere: so many claims were reached, and there are too few goods for them
+    // nowhere: there are too few goods for so many claims, which stand first in the queue
     Short { reached: usize },
 }
 
-// Whether a claim in this state waits, or is out with the good at `place`.
-fn waits_or_has(state: ClaimState, place: usize) -> bool
-    requires { ⌜ place < most-goods ⌝ }
-    ensures { λ r. ⌜ r ≡ waits-or-has-it place state ⌝ }
+// Whether a claim in this state waits, or is out with the good at a place: the good at place 0 is unit 1.
+fn waits_or_has(state: ClaimState, good: usize) -> bool
+    requires { ⌜ good < most-goods ⌝ }
+    ensures { λ r. ⌜ r ≡ waits-or-has-it good state ⌝ }
 {
     match state {
         ClaimState::Waiting => true,
-        ClaimState::Out(unit) => unit.0 as usize == place + 1,
+        ClaimState::Out(unit) => unit.0 as usize == good + 1,
     }
 }
 
-// The first good from the place `from` on that bears no mark and that a claim of this demand in this state may have.
+// The first good from the place `from` on that bears no mark and serves a claim of this demand in this state.
 fn next_open<G: Suits>(
     goods: &[G],
     sheet: &Sheet,
@@ -45,9 +45,10 @@ fn next_open<G: Suits>(
     requires wide { ⌜ length (now goods) ≤ length (now (now sheet .0)) ⌝ }
     ensures { λ r. ⌜ First-from (is-open suiting (now (goods .entry)) (now (now (sheet .entry) .0)) demand state) from r ⌝ }
 {
-    for g in from..goods.len() {
-        if (waits_or_has(state, g) & goods[g].suits(demand)) & (sheet.0[g] == 0) {
-            return Some(g);
+    for good in from..goods.len() {
+        let serves = waits_or_has(state, good) & goods[good].suits(demand);
+        if serves & (sheet.0[good] == 0) {
+            return Some(good);
         }
     }
     None
@@ -67,8 +68,8 @@ fn holders_of(allotment: &[usize], new: usize) -> [Option<usize>; MOST_GOODS]
     holders
 }
 
-// Goes breadth first from the claim at `new`, over goods that suit a claim and the claims that have them, to a good
-// that no other claim has. The queue has the claims reached, and `back` for each the place that it was reached from.
+// The way from the claim at `new` to a good that no other claim has, breadth first over the goods that serve a claim and
+// the claims that have them. The queue is left with the claims reached, and `back` with where each was reached from.
 pub(crate) fn reach<G: Suits>(
     goods: &[G],
     claims: &[Claim],
@@ -103,10 +104,10 @@ pub(crate) fn reach<G: Suits>(
                     sheet.0[good] = 1;
                     queue[tail] = holder;
                     back[tail] = head;
+                    tail += 1;
+                    from = good + 1;
                 }
             }
-            tail += 1;
-            from = good + 1;
         }
         head += 1;
     }

@@ -20,7 +20,14 @@ pub const DOGS: u8 = 64;
 pub const SUITE: u8 = 128;
 
 // The set of all features.
-pub const ALL_FEATURES: u32 = 255;
+pub const ALL_FEATURES: u8 = BATH
+    + SHOWER
+    + TWIN_BEDS
+    + GROUND_FLOOR
+    + VIEW
+    + QUIET_WING
+    + DOGS
+    + SUITE;
 
 // A room, with the set of its features.
 #[derive(Clone, Copy)]
@@ -35,11 +42,12 @@ pub impl Suits for Room as RoomSuits {
     ghost formed = { room-formed };
 
     fn suits(&self, demand: Demand) -> bool {
-        let features = self.features as u32;
+        let features = u32::from(self.features);
         (demand.first & features == demand.first) & (demand.second & features == 0)
     }
 
     fn is_formed(demand: Demand) -> bool {
-        (demand.first <= ALL_FEATURES) & (demand.second <= ALL_FEATURES)
+        let all = u32::from(ALL_FEATURES);
+        (demand.first <= all) & (demand.second <= all)
     }
 }

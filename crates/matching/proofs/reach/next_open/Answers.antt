@@ -10,25 +10,25 @@ use Rattle.matching.specs.Paths.{is-open}
 use Rattle.matching.proofs.Passing.{open-is, open-past}
 use Rattle.matching.proofs.reach.next_open.Needs as need
 
-pub returns-then-waits-or-has-suits : need.returns-then-waits-or-has-suits
-returns-then-waits-or-has-suits g c = (
-  c .loop-g .kept .g,
-  open-is (g .G·Suits .suiting) (c .args .goods .now) (c .args .sheet .now .0 .now) (c .args .demand) (c .args .state) (c .loop-g .g) (c .index-goods-g .result) (c .waits-or-has .result) (c .suits .result) (c .loop-g-test .taken) (c .index-goods-g .is) (c .waits-or-has .ensures) (c .suits .ensures) ∙ c .if-waits-or-has-suits .taken,
-  c .loop-g .inv,
+pub returns-then-serves-sheet : need.returns-then-serves-sheet
+returns-then-serves-sheet g c = (
+  c .loop-good .kept .good,
+  open-is (g .G·Suits .suiting) (c .args .goods .now) (c .args .sheet .now .0 .now) (c .args .demand) (c .args .state) (c .loop-good .good) (c .index-goods-good .result) (c .waits-or-has .result) (c .suits .result) (c .loop-good-test .taken) (c .index-goods-good .is) (c .waits-or-has .ensures) (c .suits .ensures) ∙ c .if-serves-sheet .taken,
+  c .loop-good .inv,
 )
 
-pub loop-g-again : need.loop-g-again
-loop-g-again g c = λ k l m.
+pub loop-good-again : need.loop-good-again
+loop-good-again g c = λ k l m.
     let test : ℕ → Bool = is-open (g .G·Suits .suiting) (c .args .goods .now) (c .args .sheet .now .0 .now) (c .args .demand) (c .args .state) in
-    let here = open-is (g .G·Suits .suiting) (c .args .goods .now) (c .args .sheet .now .0 .now) (c .args .demand) (c .args .state) (c .loop-g .g) (c .index-goods-g .result) (c .waits-or-has .result) (c .suits .result) (c .loop-g-test .taken) (c .index-goods-g .is) (c .waits-or-has .ensures) (c .suits .ensures) ∙ c .if-waits-or-has-suits .left in
+    let here = open-is (g .G·Suits .suiting) (c .args .goods .now) (c .args .sheet .now .0 .now) (c .args .demand) (c .args .state) (c .loop-good .good) (c .index-goods-good .result) (c .waits-or-has .result) (c .suits .result) (c .loop-good-test .taken) (c .index-goods-good .is) (c .waits-or-has .ensures) (c .suits .ensures) ∙ c .if-serves-sheet .left in
     ⊎-elim
-    (λ (e : k ≡ c .loop-g .g). subst (λ (j : ℕ). test j ≡ false) (sym e) here)
-    (λ (ne : k ≡ c .loop-g .g → ⊥). c .loop-g .inv k l (omega arith))
-    (cases-eq k (c .loop-g .g))
+    (λ (e : k ≡ c .loop-good .good). subst (λ (j : ℕ). test j ≡ false) (sym e) here)
+    (λ (ne : k ≡ c .loop-good .good → ⊥). c .loop-good .inv k l (omega arith))
+    (cases-eq k (c .loop-good .good))
 
 pub returns : need.returns
 returns g c = λ k l.
     ⊎-elim
-    (λ (b : k < c .loop-g .g). c .loop-g .inv k l b)
-    (λ (b : c .loop-g .g ≤ k). open-past (g .G·Suits .suiting) (c .args .goods .now) (c .args .sheet .now .0 .now) (c .args .demand) (c .args .state) k (omega (arith, c .loop-g-test .left)))
-    (cases-lt k (c .loop-g .g))
+    (λ (b : k < c .loop-good .good). c .loop-good .inv k l b)
+    (λ (b : c .loop-good .good ≤ k). open-past (g .G·Suits .suiting) (c .args .goods .now) (c .args .sheet .now .0 .now) (c .args .demand) (c .args .state) k (omega (arith, c .loop-good-test .left)))
+    (cases-lt k (c .loop-good .good))

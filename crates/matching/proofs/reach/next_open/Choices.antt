@@ -5,5 +5,5 @@ use mathlib.Core.Bool.{false}
 use Rattle.matching.specs.Paths.{is-open}
 use Rattle.matching.proofs.reach.next_open.Given as given
 
-abbrev pub Inv-loop-g : given.InvT-loop-g
-Inv-loop-g g l = (k : ℕ) → l .from ≤ k → k < l .g → is-open (g .G·Suits .suiting) (l .goods) (l .sheet .0 .now) (l .demand) (l .state) k ≡ false
+abbrev pub Inv-loop-good : given.InvT-loop-good
+Inv-loop-good g l = (k : ℕ) → l .from ≤ k → k < l .good → is-open (g .G·Suits .suiting) (l .goods) (l .sheet .0 .now) (l .demand) (l .state) k ≡ false
