@@ -1,4 +1,6 @@
 // Answers a booking script on standard input by rows on standard output, over the goods of one meeting.
+#![tactic(auto)]
+
 ghost use Rattle.std.specs.Prelude.{◌≤◌, length, IfOk};
 
 use meeting::open_meeting;

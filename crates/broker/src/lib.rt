@@ -1,4 +1,6 @@
 // The broker: drafts are asked for, promises are held, taken, given up or left to lapse, over any resource.
+#![tactic(auto)]
+
 pub use call::{Answer, Call, Units};
 pub use desk::Broker;
 pub use draft::Draft;

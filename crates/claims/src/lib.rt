@@ -1,4 +1,6 @@
 // What is promised: demands, claims and the numbers that name them, and the claims of a book in order.
+#![tactic(auto)]
+
 ghost use Rattle.std.specs.Prelude.{◌≡◌};
 ghost use Rattle.claims.specs.Book.{waits_or_has};
 ghost use Rattle.claims.specs.Causes.{cause_number};

@@ -1,4 +1,6 @@
 // The bottom kinds of goods, each on a shelf of its own: a pool of like units, and goods that are asked for by number.
+#![tactic(auto)]
+
 pub use named::Named;
 pub use pool::Pool;
 

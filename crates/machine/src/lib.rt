@@ -1,4 +1,6 @@
 // The broker's machine: what a call on promises is refused for, and what an event makes of a promise.
+#![tactic(auto)]
+
 ghost use Rattle.std.specs.Prelude.{◌≡◌};
 ghost use Rattle.machine.specs.Refusals.{refusal_number, not_carried_for};
 ghost use Rattle.machine.specs.Slots.{slot_number, met};

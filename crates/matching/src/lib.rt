@@ -1,4 +1,6 @@
 // Goods that are not alike: each claim wants one that suits it.
+#![tactic(auto)]
+
 pub use admission::admit;
 pub use room::{
     ALL_FEATURES, BATH, DOGS, GROUND_FLOOR, QUIET_WING, Room, SHOWER, SUITE, TWIN_BEDS, VIEW,

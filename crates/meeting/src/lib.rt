@@ -1,4 +1,6 @@
 // The goods of one open meeting, and the broker that promises them.
+#![tactic(auto)]
+
 ghost use Rattle.std.specs.Prelude.{◌≡◌, IfOk};
 ghost use Rattle.meeting.specs.Stock.{Stocked, Opens};
 

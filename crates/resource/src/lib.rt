@@ -1,4 +1,6 @@
 // What every kind of goods answers to.
+#![tactic(auto)]
+
 ghost use Rattle.std.specs.Prelude.{◌≡◌, true, length};
 ghost use Rattle.claims.specs.Book.{Book, Rising, every, find};
 ghost use Rattle.claims.specs.Rules.{Rules, Laws, readable, waiting, seated};

@@ -1,4 +1,6 @@
 // A booking script: its lines are read, dealt with by a broker, and answered by rows.
+#![tactic(auto)]
+
 pub use faults::{OnLine, ScriptFault, Unread};
 pub use reader::{format_is_exact, read_line};
 pub use rows::push_row;

@@ -1,4 +1,6 @@
 // What every kind of goods on a shelf asks of a claim, a demand or a key before it looks at its goods.
+#![tactic(auto)]
+
 ghost use Rattle.std.specs.Prelude.{◌≡◌};
 ghost use Rattle.claims.specs.Book.{find as held};
 ghost use Rattle.claims.specs.Held.{claims_book};

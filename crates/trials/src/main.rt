@@ -1,6 +1,8 @@
 // Tries many cases, and tells what came. Standard input has scripts, each after a line that says what is tried: one
 // that begins with '=' is run over the meeting's goods, one that begins with '+' over a large pool, and each over
 // goods that have no claims yet.
+#![tactic(auto)]
+
 ghost use Rattle.std.specs.Prelude.{◌≤◌, length};
 
 use broker::Broker;
