@@ -19,8 +19,8 @@ taken_in c =
     let s = c.args.self.now in
     let x = c.args.claim in
     let b = claims_book s in
-    let n = none_is (find b x.key.0) (sym (c.if-is-some.ensures ∙ ap is_some c.find.ensures)) in
-    let room : length b < most_claims = omega (arith, c.len.ensures, c.if-len-ge-MOST-CLAIMS.false, s.items.ok.0) in
+    let n = none_is (find b x.key.0) (sym (c.if-is_some.ensures ∙ ap is_some c.find.ensures)) in
+    let room : length b < most_claims = omega (arith, c.len.ensures, c.if-len-ge-MOST_CLAIMS.false, s.items.ok.0) in
     let ok : is_ok c.insert.result ≡ true = c.insert.ensures.succeeds (omega (arith, s.roomy, room, s.items.ok.0)) in
     (room, n, inserted_there x b (vec_items c.insert.new.self) c.rank-i.result (is_ok c.insert.result) ok c.rank-i.ensures n c.insert.ensures.items)
 

@@ -26,14 +26,14 @@ loop-claim-preserved g c =
     let b = claims_book c.args.self.now in
     let i = c.loop-claim.claim-index in
     let counts = g.C.Counting.counts c.args.counting.now in
-    let e : length c.as-slice-claim-items.result.now ≡ length b = ap length c.as-slice-claim-items.ensures.value in (
+    let e : length c.as_slice-claim-items.result.now ≡ length b = ap length c.as_slice-claim-items.ensures.value in (
       units_more counts c.args.party.0 i c.loop-claim.sum c.share-sum.result b blank (omega (arith, c.loop-claim-test.true))
-          (ap (λ (ys : Book). share counts c.args.party.0 (get_or ys i blank)) (sym c.as-slice-claim-items.ensures.value) ∙ sym c.share-sum.ensures.value) c.loop-claim.invariant.0,
+          (ap (λ (ys : Book). share counts c.args.party.0 (get_or ys i blank)) (sym c.as_slice-claim-items.ensures.value) ∙ sym c.share-sum.ensures.value) c.loop-claim.invariant.0,
       omega (arith, c.loop-claim.invariant.1, c.share-sum.ensures.small),
     )
 
 pub returns : goal.returns
 returns g c =
     let b = claims_book c.args.self.now in
-    let e : length c.as-slice-claim-items.result.now ≡ length b = ap length c.as-slice-claim-items.ensures.value in
+    let e : length c.as_slice-claim-items.result.now ≡ length b = ap length c.as_slice-claim-items.ensures.value in
     units_end (g.C.Counting.counts c.args.counting.now) c.args.party.0 c.loop-claim.claim-index c.loop-claim.sum b (omega (arith, c.loop-claim-test.false)) c.loop-claim.invariant.0
