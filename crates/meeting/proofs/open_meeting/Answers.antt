@@ -6,7 +6,7 @@ use Rattle.meeting.proofs.open_meeting.Goals as goal
 
 pub returns-in-Ok : goal.returns-in-Ok
 returns-in-Ok c =
-    let s = c.in-ok-stock.ensures in
+    let s = c.in_ok-stock.ensures in
     let b = c.in-Ok.ensures s.sound in
     record {
       sound = b.sound;

@@ -11,15 +11,15 @@ use Rattle.compound.specs.Limited.{limited}
 use Rattle.meeting.specs.Stock.{Stocked}
 use Rattle.meeting.proofs.open_stock.Goals as goal
 
-pub returns-in-err-tables : goal.returns-in-err-tables
-returns-in-err-tables c = IfOk-from_err c.from-residual-in-err-tables.result Stocked c.from-residual-in-err-tables.ensures.0
+pub returns-in_err-tables : goal.returns-in_err-tables
+returns-in_err-tables c = IfOk-from_err c.from_residual-in_err-tables.result Stocked c.from_residual-in_err-tables.ensures.0
 
 pub returns : goal.returns
 returns c =
-    let p = c.in-ok-buggies.buggies in
-    let t = c.in-ok-tables.tables in
-    let pooled = c.in-ok-buggies.ensures.opened in
-    let tabled = c.in-ok-tables.ensures.opened in
+    let p = c.in_ok-buggies.buggies in
+    let t = c.in_ok-tables.tables in
+    let pooled = c.in_ok-buggies.ensures.opened in
+    let tabled = c.in_ok-tables.ensures.opened in
     let both = c.new-goods.ensures.fresh tt tt in
     let none : merge (pool_book p) (named_book t) ≡ [] = ap (λ (a : Book). merge a (named_book t)) pooled.unclaimed ∙ tabled.unclaimed in
     let all = c.new-3.ensures.fresh both.sound in

@@ -20,7 +20,7 @@ loop-j-init g c = (refl, unwritten_all, λ s. (s, refl, λ w. drawing_none _ _ (
 pub loop-j-preserved : goal.loop-j-preserved
 loop-j-preserved g c =
     let v = c.loop-j.invariant in
-    let q = c.in-ok-units.ensures in
+    let q = c.in_ok-units.ensures in
     let ds = demands_of c.args.promise.now.draft in
     let small = demands-few c.args.promise.now.draft in
     let within : c.loop-j.j < length ds = omega (arith, c.loop-j-test.true, c.len-j-end.ensures) in (
@@ -33,19 +33,19 @@ loop-j-preserved g c =
       ),
     )
 
-pub returns-in-err-units : goal.returns-in-err-units
-returns-in-err-units g c =
+pub returns-in_err-units : goal.returns-in_err-units
+returns-in_err-units g c =
     let m = g.R.Resource in
     let x = c.args.resource.now in
     let v = c.loop-j.invariant in
-    let q = c.in-err-units.ensures in
+    let q = c.in_err-units.ensures in
     let ds = demands_of c.args.promise.now.draft in
     let within : c.loop-j.j < length ds = omega (arith, c.loop-j-test.true, c.len-j-end.ensures) in
     let never : m.sound x → Waits (most_demands * c.args.promise.now.number.0) ds (m.book x) → ⊥ = λ s w.
     let i = v.2 s in
     never_refused _ _ (most_demands * c.args.promise.now.number.0) ds c.loop-j.j c.loop-j.units _ within none (i.2 w) _ i.1 _ _ _ (q.drawn i.0) in
     record {
-      zeros = IfOk-from_err c.from-residual.result _ c.from-residual.ensures.0;
+      zeros = IfOk-from_err c.from_residual.result _ c.from_residual.ensures.0;
       drawn = record {
         kept = λ s. q.kept (v.2 s).0;
         same = λ s. (q.drawn (v.2 s).0).same ∙ (v.2 s).1;

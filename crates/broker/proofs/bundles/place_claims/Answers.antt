@@ -11,7 +11,7 @@ none = record { shelf = 0; first = 0; second = 0 }
 pub loop-j-preserved : goal.loop-j-preserved
 loop-j-preserved g c = λ s.
     let i = c.loop-j.invariant s in
-    let q = c.in-default.ensures in
+    let q = c.in_default.ensures in
     let ds = c.args.demands.now in
     let d = get_or ds c.loop-j.j none in
     let h = c.loop-j-test.true in (
@@ -30,8 +30,8 @@ returns-in-Err g c =
     let d = get_or ds j none in
     let h = c.loop-j-test.true in
     let n : length (take j ds) ≡ j = length-take-le j ds (omega arith) in
-    let back = c.lift-first.ensures (take j ds) n in
-    let undone : m.sound x → Ready (m.rules x) (m.book x) c.args.number.0 c.args.party.0 ds → Placed_all (m.rules x) (m.book x) c.args.number.0 c.args.party.0 ds (Err c.in-Err.fault) (m.book c.lift-first.new.resource) = λ s y.
+    let back = c.lift_first.ensures (take j ds) n in
+    let undone : m.sound x → Ready (m.rules x) (m.book x) c.args.number.0 c.args.party.0 ds → Placed_all (m.rules x) (m.book x) c.args.number.0 c.args.party.0 ds (Err c.in-Err.fault) (m.book c.lift_first.new.resource) = λ s y.
     let i = c.loop-j.invariant s in
     turn_err _ _ c.args.number.0 c.args.party.0 ds y j _ (i.2 y) d h (get_or_default ds j none d h) _ i.1 _ _ c.in-Err.fault (q.placed i.0) _ (back.after (q.kept i.0)) in
     record {

@@ -35,9 +35,9 @@ loop-i-preserved-then-lapses g c =
       omega (arith, r.len, v.2),
       stand_goes c.args.clock xs i x within r.value ys r.items yes ∙ v.3,
       λ s. let u = v.4 s in (
-        c.lift-claims.ensures.kept u.0,
-        c.lift-claims.ensures.same u.0 ∙ u.1,
-        ap (kept c.args.clock (live_view (drop i ys))) (c.lift-claims.ensures.after u.0) ∙ kept_goes c.args.clock xs i x within r.value ys r.items _ yes ∙ u.2,
+        c.lift_claims.ensures.kept u.0,
+        c.lift_claims.ensures.same u.0 ∙ u.1,
+        ap (kept c.args.clock (live_view (drop i ys))) (c.lift_claims.ensures.after u.0) ∙ kept_goes c.args.clock xs i x within r.value ys r.items _ yes ∙ u.2,
       ),
     )
 

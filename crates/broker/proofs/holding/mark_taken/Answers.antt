@@ -12,5 +12,5 @@ returns c =
     record {
       room = search rules;
       count = search rules;
-      marked = λ d. map-set promise_view xs i _ ∙ ap (λ p. set (live_view xs) i (as_taken (promise_view p))) (c.index-mut-promise.ensures.value ∙ get_or_default xs i _ d within);
+      marked = λ d. map-set promise_view xs i _ ∙ ap (λ p. set (live_view xs) i (as_taken (promise_view p))) (c.index_mut-promise.ensures.value ∙ get_or_default xs i _ d within);
     }

@@ -34,8 +34,8 @@ loop-good-init g c =
       refl,
     )
 
-pub offset-bounds-holders-good : goal.offset-bounds-holders-good
-offset-bounds-holders-good g c = let l : c.in-Some.good < 256 = omega (arith, (opened g c).2, c.requires.few) in search rules
+pub offset_bounds-holders-good : goal.offset_bounds-holders-good
+offset_bounds-holders-good g c = let l : c.in-Some.good < 256 = omega (arith, (opened g c).2, c.requires.few) in search rules
 
 pub bounds : goal.bounds
 bounds g c = omega (arith, (opened g c).2, c.requires.few)
@@ -51,8 +51,8 @@ returns-in-None g c =
     let good : ℕ = c.in-Some.good in
     let o = open_some g.G.Suits.suiting c.args.goods.now c.args.claims.now c.loop-good.sheet.0.now (get_or c.loop-good.queue c.loop-head.head 0) c.loop-good.from
     (get_or c.args.claims.now (get_or c.loop-head.queue c.loop-head.head 0) plain) c.loop-good.invariant.2 good c.in-Some.ensures in
-    let table = c.holders-of-holders.ensures in
-    let e : get_or c.holders-of-holders.result good None ≡ None = c.in-None.is in
+    let table = c.holders_of-holders.ensures in
+    let e : get_or c.holders_of-holders.result good None ≡ None = c.in-None.is in
     let free = subst (λ (v : Option ℕ). Holder c.args.allotment.now c.args.new good v) e (table.each good (omega (arith, o.2, c.requires.few, table.wide))) in
     record {
       leads = front_found _ _ _ _ _ _ _ _ _ c.loop-good.invariant.0 c.loop-good.invariant.1 good o.0 (λ i b. free i (omega (arith, c.requires.same)));
@@ -76,7 +76,7 @@ pushing g c =
     let h : ℕ = c.in-Some-holders.holder in
     let o = open_some g.G.Suits.suiting c.args.goods.now c.args.claims.now c.loop-good.sheet.0.now (get_or c.loop-good.queue c.loop-head.head 0) c.loop-good.from
     (get_or c.args.claims.now (get_or c.loop-head.queue c.loop-head.head 0) plain) c.loop-good.invariant.2 good c.in-Some.ensures in
-    let table = c.holders-of-holders.ensures in
+    let table = c.holders_of-holders.ensures in
     let w = subst (λ (v : Option ℕ). Holder c.args.allotment.now c.args.new good v) c.in-Some-holders.is (table.each good (omega (arith, o.2, c.requires.few, table.wide))) in
     let below : c.in-Some-holders.holder < length c.args.claims.now = omega (arith, w.0, c.requires.same) in
     record {
@@ -99,8 +99,8 @@ bounds-queue-tail g c = omega (arith, (pushing g c).room, c.requires.lined, c.lo
 pub bounds-back-tail : goal.bounds-back-tail
 bounds-back-tail g c = omega (arith, (pushing g c).room, c.requires.led, c.loop-good.auto.back, c.loop-head.auto.back)
 
-pub overflow-add-from : goal.overflow-add-from
-overflow-add-from g c = let l = (pushing g c).few in search rules
+pub overflow_add-from : goal.overflow_add-from
+overflow_add-from g c = let l = (pushing g c).few in search rules
 
 pub loop-good-smaller : goal.loop-good-smaller
 loop-good-smaller g c = let l = (pushing g c).within in let m = c.in-Some.ensures.0 in omega arith
@@ -138,7 +138,7 @@ loop-head-preserved g c =
           (λ (b : k < c.loop-good.from). c.loop-good.invariant.3 k b y)
           (λ (b : c.loop-good.from ≤ k).
           open_none g.G.Suits.suiting c.args.goods.now c.args.claims.now c.loop-good.sheet.0.now (get_or c.loop-good.queue c.loop-head.head 0) c.loop-good.from
-          (get_or c.args.claims.now (get_or c.loop-head.queue c.loop-head.head 0) plain) c.loop-good.invariant.2 c.in-default.ensures k b y)
+          (get_or c.args.claims.now (get_or c.loop-head.queue c.loop-head.head 0) plain) c.loop-good.invariant.2 c.in_default.ensures k b y)
           (cases_lt k c.loop-good.from)),
       c.loop-good.invariant.4,
       c.loop-good.invariant.5 ∙ c.loop-head.invariant.2,

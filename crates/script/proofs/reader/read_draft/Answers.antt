@@ -4,13 +4,13 @@ use Rattle.broker.specs.Drafts.{demands_of}
 use Rattle.script.proofs.Triples.{one_too_many, demand_more}
 use Rattle.script.proofs.reader.read_draft.Goals as goal
 
-pub returns-in-err-ok : goal.returns-in-err-ok
-returns-in-err-ok c =
-    rw c.from-residual.ensures (one_too_many c.args.numbers.now (demands_of c.loop-i.draft) c.loop-i.i (omega arith) c.loop-i.invariant c.push.result c.push.ensures.value (sym c.ok.ensures.value ∙ c.in-err-ok.was))
+pub returns-in_err-ok : goal.returns-in_err-ok
+returns-in_err-ok c =
+    rw c.from_residual.ensures (one_too_many c.args.numbers.now (demands_of c.loop-i.draft) c.loop-i.i (omega arith) c.loop-i.invariant c.push.result c.push.ensures.value (sym c.ok.ensures.value ∙ c.in_err-ok.was))
 
 pub loop-i-preserved : goal.loop-i-preserved
 loop-i-preserved c =
-    demand_more c.args.numbers.now (demands_of c.loop-i.draft) c.loop-i.i (omega arith) c.loop-i.invariant c.push.result c.push.ensures.value (sym c.ok.ensures.value ∙ c.in-ok-ok.was) _ c.push.ensures.after
+    demand_more c.args.numbers.now (demands_of c.loop-i.draft) c.loop-i.i (omega arith) c.loop-i.invariant c.push.result c.push.ensures.value (sym c.ok.ensures.value ∙ c.in_ok-ok.was) _ c.push.ensures.after
 
 pub returns : goal.returns
 returns c =

@@ -6,25 +6,25 @@ use Rattle.script.proofs.Turns.{one_more, stopped, answered}
 use Rattle.script.proofs.Views.{line_said, runs, runs_too_long}
 use Rattle.script.proofs.whole.answer_script.Goals as goal
 
-pub returns-then-script-gt-MOST-BYTES : goal.returns-then-script-gt-MOST-BYTES
-returns-then-script-gt-MOST-BYTES g c =
-    runs_too_long g.R.Resource c.push-row.result c.args.broker.now c.args.script.now (string_bytes c.args.out.now) _ (omega arith) c.push-row.ensures
+pub returns-then-script-gt-MOST_BYTES : goal.returns-then-script-gt-MOST_BYTES
+returns-then-script-gt-MOST_BYTES g c =
+    runs_too_long g.R.Resource c.push_row.result c.args.broker.now c.args.script.now (string_bytes c.args.out.now) _ (omega arith) c.push_row.ensures
 
-pub returns-in-err-row-of-line : goal.returns-in-err-row-of-line
-returns-in-err-row-of-line g c =
+pub returns-in_err-row_of_line : goal.returns-in_err-row_of_line
+returns-in_err-row_of_line g c =
     let m = g.R.Resource in
     let was = c.loop-at.invariant in
-    let row = c.in-err-row-of-line.ensures in
-    let p = err_from_is_err_and c.from-residual.result c.from-residual.ensures.1 in
+    let row = c.in_err-row_of_line.ensures in
+    let p = err_from_is_err_and c.from_residual.result c.from_residual.ensures.1 in
     let told = line_said m _ _ _ _ row.answer row.told in
-    rw p.1 (runs m _ c.args.broker.now c.row-of-line.new.broker c.args.script.now (string_bytes c.args.out.now) _ was.rows (row.added ∙ was.added) (stopped (by_broker m) was c.end-of-end.result (said row.answer) c.row-of-line.new.broker (omega arith) c.end-of-end.ensures told (omega arith)))
+    rw p.1 (runs m _ c.args.broker.now c.row_of_line.new.broker c.args.script.now (string_bytes c.args.out.now) _ was.rows (row.added ∙ was.added) (stopped (by_broker m) was c.end_of-end.result (said row.answer) c.row_of_line.new.broker (omega arith) c.end_of-end.ensures told (omega arith)))
 
 pub loop-at-preserved : goal.loop-at-preserved
 loop-at-preserved g c =
     let m = g.R.Resource in
-    let row = c.in-ok-row-of-line.ensures in
+    let row = c.in_ok-row_of_line.ensures in
     let told = line_said m _ _ _ _ row.answer row.told in
-    one_more (by_broker m) c.loop-at.invariant c.end-of-end.result (said row.answer) c.row-of-line.new.broker (omega arith) c.end-of-end.ensures told _ row.added
+    one_more (by_broker m) c.loop-at.invariant c.end_of-end.result (said row.answer) c.row_of_line.new.broker (omega arith) c.end_of-end.ensures told _ row.added
 
 pub returns : goal.returns
 returns g c =

@@ -15,15 +15,15 @@ use Rattle.broker.specs.View.{view}
 use Rattle.broker.proofs.Granting.{ask-refused, ask-granted}
 use Rattle.broker.proofs.desk.Broker.ask.Goals as goal
 
-pub returns-in-err-check-draft : goal.returns-in-err-check-draft
-returns-in-err-check-draft g c =
+pub returns-in_err-check_draft : goal.returns-in_err-check_draft
+returns-in_err-check_draft g c =
     let m = g.R.Resource in
     let b = c.args.self.now in
     let a = c.at_minute.new.self in
     let ds = demands_of c.args.draft in
-    let p = err_from_is_err_and c.from-residual.result c.from-residual.ensures.1 in
-    let x = c.in-err-check-draft.field-0.0 in
-    let q : (y : m.sound a.resource) → DraftChecked (m.rules a.resource) c.args.party.0 c.args.minutes ds (Err x) = λ y. subst (λ (xs : List Demand). DraftChecked (m.rules a.resource) c.args.party.0 c.args.minutes xs (Err x)) c.as-slice.ensures (c.in-err-check-draft.ensures.checked y) in
+    let p = err_from_is_err_and c.from_residual.result c.from_residual.ensures.1 in
+    let x = c.in_err-check_draft.field-0.0 in
+    let q : (y : m.sound a.resource) → DraftChecked (m.rules a.resource) c.args.party.0 c.args.minutes ds (Err x) = λ y. subst (λ (xs : List Demand). DraftChecked (m.rules a.resource) c.args.party.0 c.args.minutes xs (Err x)) c.as_slice.ensures (c.in_err-check_draft.ensures.checked y) in
     record {
       kept = c.at_minute.ensures.kept;
       same = c.at_minute.ensures.same;
@@ -42,8 +42,8 @@ returns g c =
     let d = c.grant.new.self in
     let ds = demands_of c.args.draft in
     let r = m.rules b.resource in
-    let f : Checked c.args.party.0 c.args.minutes ds (Ok tt) = subst (λ (xs : List Demand). Checked c.args.party.0 c.args.minutes xs (Ok tt)) c.as-slice.ensures c.in-ok-check-draft.ensures.fits in
-    let q : (y : m.sound a.resource) → DraftChecked (m.rules a.resource) c.args.party.0 c.args.minutes ds (Ok tt) = λ y. subst (λ (xs : List Demand). DraftChecked (m.rules a.resource) c.args.party.0 c.args.minutes xs (Ok tt)) c.as-slice.ensures (c.in-ok-check-draft.ensures.checked y) in
+    let f : Checked c.args.party.0 c.args.minutes ds (Ok tt) = subst (λ (xs : List Demand). Checked c.args.party.0 c.args.minutes xs (Ok tt)) c.as_slice.ensures c.in_ok-check_draft.ensures.fits in
+    let q : (y : m.sound a.resource) → DraftChecked (m.rules a.resource) c.args.party.0 c.args.minutes ds (Ok tt) = λ y. subst (λ (xs : List Demand). DraftChecked (m.rules a.resource) c.args.party.0 c.args.minutes xs (Ok tt)) c.as_slice.ensures (c.in_ok-check_draft.ensures.checked y) in
     let asked : Sound m b → ◌≡◌ {A = State × Answer} (view m d, granted_or c.grant.result) (step r (view m b) (ask c.args.minute c.args.party.0 c.args.minutes ds)) = λ z.
     let y = (c.at_minute.ensures.kept z).goods in
     ask-granted r c.args.minute c.args.party.0 c.args.minutes ds (view m b) (view m a) (c.at_minute.ensures.after z) (m.rules a.resource) (c.at_minute.ensures.same z)

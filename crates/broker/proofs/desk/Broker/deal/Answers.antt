@@ -16,22 +16,22 @@ handed_on : {X : Type 0} (m : Ghosts X) (b b' : Broker X) (call : Call) (call' :
 handed_on m b b' call call' x answer e f s =
     subst (λ (y : MachineCall). Steps m b y (answer_of answer) b') (sym e) (subst (λ (o : Result Answer Refusal). Steps m b call' (answer_of o) b') (sym f) s)
 
-pub returns-in-err-ask : goal.returns-in-err-ask
-returns-in-err-ask g c =
-    let p = err_from_is_err_and c.from-residual.result c.from-residual.ensures.1 in
-    handed_on g.R.Resource _ _ c.args.call _ c.in-err-ask.field-0.0 _ (ap call_of c.in-Ask.is) (p.1 ∙ ap Err p.2) c.in-err-ask.ensures
+pub returns-in_err-ask : goal.returns-in_err-ask
+returns-in_err-ask g c =
+    let p = err_from_is_err_and c.from_residual.result c.from_residual.ensures.1 in
+    handed_on g.R.Resource _ _ c.args.call _ c.in_err-ask.field-0.0 _ (ap call_of c.in-Ask.is) (p.1 ∙ ap Err p.2) c.in_err-ask.ensures
 
-pub returns-in-err-count : goal.returns-in-err-count
-returns-in-err-count g c =
-    let p = err_from_is_err_and c.from-residual-in-err-count.result c.from-residual-in-err-count.ensures.1 in
-    handed_on g.R.Resource _ _ c.args.call _ c.in-err-count.field-0.0 _ (ap call_of c.in-Take.is) (p.1 ∙ ap Err p.2) c.in-err-count.ensures.steps
+pub returns-in_err-count : goal.returns-in_err-count
+returns-in_err-count g c =
+    let p = err_from_is_err_and c.from_residual-in_err-count.result c.from_residual-in_err-count.ensures.1 in
+    handed_on g.R.Resource _ _ c.args.call _ c.in_err-count.field-0.0 _ (ap call_of c.in-Take.is) (p.1 ∙ ap Err p.2) c.in_err-count.ensures.steps
 
-pub returns-in-err-release : goal.returns-in-err-release
-returns-in-err-release g c =
-    let p = err_from_is_err_and c.from-residual-in-err-release.result c.from-residual-in-err-release.ensures.1 in
-    handed_on g.R.Resource _ _ c.args.call _ c.in-err-release.field-0.0 _ (ap call_of c.in-Release.is) (p.1 ∙ ap Err p.2) c.in-err-release.ensures
+pub returns-in_err-release : goal.returns-in_err-release
+returns-in_err-release g c =
+    let p = err_from_is_err_and c.from_residual-in_err-release.result c.from_residual-in_err-release.ensures.1 in
+    handed_on g.R.Resource _ _ c.args.call _ c.in_err-release.field-0.0 _ (ap call_of c.in-Release.is) (p.1 ∙ ap Err p.2) c.in_err-release.ensures
 
-pub returns-in-err-give-back : goal.returns-in-err-give-back
-returns-in-err-give-back g c =
-    let p = err_from_is_err_and c.from-residual-in-err-give-back.result c.from-residual-in-err-give-back.ensures.1 in
-    handed_on g.R.Resource _ _ c.args.call _ c.in-err-give-back.field-0.0 _ (ap call_of c.in-GiveBack.is) (p.1 ∙ ap Err p.2) c.in-err-give-back.ensures
+pub returns-in_err-give_back : goal.returns-in_err-give_back
+returns-in_err-give_back g c =
+    let p = err_from_is_err_and c.from_residual-in_err-give_back.result c.from_residual-in_err-give_back.ensures.1 in
+    handed_on g.R.Resource _ _ c.args.call _ c.in_err-give_back.field-0.0 _ (ap call_of c.in-GiveBack.is) (p.1 ∙ ap Err p.2) c.in_err-give_back.ensures

@@ -5,4 +5,4 @@ use Rattle.broker.specs.View.{view}
 use Rattle.broker.proofs.desk.Broker.question.Goals as goal
 
 pub returns : goal.returns
-returns g c = record { kept = λ z. z; same = λ z. refl; after = λ z. ap (λ s. (view g.R.Resource c.args.self.now, told (slot_number s))) c.slot-under.ensures }
+returns g c = record { kept = λ z. z; same = λ z. refl; after = λ z. ap (λ s. (view g.R.Resource c.args.self.now, told (slot_number s))) c.slot_under.ensures }

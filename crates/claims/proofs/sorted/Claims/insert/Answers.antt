@@ -24,8 +24,8 @@ taken_in c =
     let ok : is_ok c.insert.result ≡ true = c.insert.ensures.succeeds (omega (arith, s.roomy, room, s.items.ok.0)) in
     (room, n, inserted_there x b (vec_items c.insert.new.self) c.rank-i.result (is_ok c.insert.result) ok c.rank-i.ensures n c.insert.ensures.items)
 
-pub invariant-of-self : goal.invariant-of-self
-invariant-of-self c =
+pub invariant_of-self : goal.invariant_of-self
+invariant_of-self c =
     let s = c.args.self.now in
     let x = c.args.claim in
     let b = claims_book s in

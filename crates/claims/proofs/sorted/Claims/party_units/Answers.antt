@@ -11,10 +11,10 @@ use Rattle.claims.proofs.sorted.Claims.party_units.Goals as goal
 abbrev blank : Claim
 blank = record { key = record { 0 = 0 }; party = record { 0 = 0 }; demand = record { shelf = 0; first = 0; second = 0 }; state = Waiting }
 
-pub overflow-add-sum : goal.overflow-add-sum
-overflow-add-sum g c =
+pub overflow_add-sum : goal.overflow_add-sum
+overflow_add-sum g c =
     let s = c.args.self.now in
-    let e : length c.as-slice-claim-items.result.now ≡ length (claims_book s) = ap length c.as-slice-claim-items.ensures.value in
+    let e : length c.as_slice-claim-items.result.now ≡ length (claims_book s) = ap length c.as_slice-claim-items.ensures.value in
     let low : c.loop-claim.sum + c.share-sum.result ≤ 15360000 = omega (arith, c.loop-claim.invariant.1, c.share-sum.ensures.small, c.loop-claim-test.true, s.few, s.items.ok.0) in
     search rules
 

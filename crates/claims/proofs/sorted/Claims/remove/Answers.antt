@@ -8,8 +8,8 @@ use Rattle.claims.proofs.sorted.Claims.remove.Goals as goal
 pub remove-requires : goal.remove-requires
 remove-requires c = omega (arith, c.args.self.now.items.ok.0, c.in-Some.ensures.within)
 
-pub invariant-of-self : goal.invariant-of-self
-invariant-of-self c =
+pub invariant_of-self : goal.invariant_of-self
+invariant_of-self c =
     let s = c.args.self.now in
     let b = vec_items s.items in
     let k = c.args.key.0 in (

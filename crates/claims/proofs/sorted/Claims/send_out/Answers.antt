@@ -5,8 +5,8 @@ use Rattle.claims.proofs.Books.{rising-out, out_absent}
 use Rattle.claims.proofs.Ranks.{rises_says, rises_shows, stands_out}
 use Rattle.claims.proofs.sorted.Claims.send_out.Goals as goal
 
-pub invariant-of-self : goal.invariant-of-self
-invariant-of-self c =
+pub invariant_of-self : goal.invariant_of-self
+invariant_of-self c =
     let s = c.args.self.now in
     let b = vec_items s.items in
     let k = c.args.key.0 in
@@ -21,5 +21,5 @@ invariant-of-self c =
 pub returns-in-Some : goal.returns-in-Some
 returns-in-Some c = stands_out c.args.key.0 c.args.unit.0 (vec_items c.args.self.now.items) c.in-Some.i c.index-claim.result.now c.in-Some.ensures c.index-claim.ensures
 
-pub returns-in-default : goal.returns-in-default
-returns-in-default c = sym (out_absent c.args.key.0 c.args.unit.0 (vec_items c.args.self.now.items) c.in-default.ensures)
+pub returns-in_default : goal.returns-in_default
+returns-in_default c = sym (out_absent c.args.key.0 c.args.unit.0 (vec_items c.args.self.now.items) c.in_default.ensures)

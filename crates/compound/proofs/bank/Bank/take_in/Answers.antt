@@ -11,18 +11,18 @@ use Rattle.compound.specs.Joins.{refusal_full}
 use Rattle.compound.proofs.Banks.{joint, placed-low, placed-high, sides_low, sides_high}
 use Rattle.compound.proofs.bank.Bank.take_in.Goals as goal
 
-pub returns-then-count-ge-MOST-CLAIMS : goal.returns-then-count-ge-MOST-CLAIMS
-returns-then-count-ge-MOST-CLAIMS g c =
+pub returns-then-count-ge-MOST_CLAIMS : goal.returns-then-count-ge-MOST_CLAIMS
+returns-then-count-ge-MOST_CLAIMS g c =
     let s = c.args.self.now in
     let x = c.args.claim in
     let r = joined s.split (g.F.Resource.rules s.first) (g.S.Resource.rules s.second) in
     let m = merge (g.F.Resource.book s.first) (g.S.Resource.book s.second) in
-    let q = λ (h : BankSound g.F.Resource g.S.Resource s). asked s.«open» r m x c.is-known.ensures (c.reads.ensures h) c.if-not-is-known-reads.false (c.claim.ensures h) c.if-is-some.ensures in
+    let q = λ (h : BankSound g.F.Resource g.S.Resource s). asked s.«open» r m x c.is_known.ensures (c.reads.ensures h) c.if-not-is_known-reads.false (c.claim.ensures h) c.if-is_some.ensures in
     record {
       kept = λ h. h;
       placed = λ h.
           let is = (q h).is_open in
-          let full : most_claims ≤ length m = let n = c.count.ensures h in let e = ap length (book_open s.«open» m is) in omega (arith, c.if-count-ge-MOST-CLAIMS.true) in
+          let full : most_claims ≤ length m = let n = c.count.ensures h in let e = ap length (book_open s.«open» m is) in omega (arith, c.if-count-ge-MOST_CLAIMS.true) in
           placed_open s.«open» is (placed-not x r m TooManyClaims (refusal_full s.split (g.F.Resource.rules s.first) (g.S.Resource.rules s.second) m x (q h).readable (q h).new full));
     }
 
@@ -34,11 +34,11 @@ returns-then-claim-self g c =
     let x = c.args.claim in
     let r = joined s.split (g.F.Resource.rules s.first) (g.S.Resource.rules s.second) in
     let m = merge (g.F.Resource.book s.first) (g.S.Resource.book s.second) in
-    let q = λ (h : BankSound g.F.Resource g.S.Resource s). asked s.«open» r m x c.is-known.ensures (c.reads.ensures h) c.if-not-is-known-reads.false (c.claim.ensures h) c.if-is-some.ensures in
-    let room = λ (h : BankSound g.F.Resource g.S.Resource s). fewer_open s.«open» m (q h).is_open (c.count.ensures h) c.if-count-ge-MOST-CLAIMS.false in
+    let q = λ (h : BankSound g.F.Resource g.S.Resource s). asked s.«open» r m x c.is_known.ensures (c.reads.ensures h) c.if-not-is_known-reads.false (c.claim.ensures h) c.if-is_some.ensures in
+    let room = λ (h : BankSound g.F.Resource g.S.Resource s). fewer_open s.«open» m (q h).is_open (c.count.ensures h) c.if-count-ge-MOST_CLAIMS.false in
     let j = λ (h : BankSound g.F.Resource g.S.Resource s). joint g.F.Resource g.S.Resource (standing g.F.Resource f.lawful f.rising f.carried f.read) (standing g.S.Resource t.lawful t.rising t.carried t.read) s h (q h).is_open in
     let l : low s.split x ≡ true = le-leb x.demand.shelf s.split (omega (arith, c.if-claim-self.true)) in
-    let d = c.hand-on.ensures in
+    let d = c.hand_on.ensures in
     record {
       kept = λ h. (d.kept h.0, h.1, λ o. sides_low (j h) x (q h).new (room h) l (d.placed h.0));
       placed = λ h. placed_open s.«open» (q h).is_open (placed-low (j h) x (q h).new (room h) l (d.placed h.0));
@@ -52,11 +52,11 @@ returns-else-claim-self g c =
     let x = c.args.claim in
     let r = joined s.split (g.F.Resource.rules s.first) (g.S.Resource.rules s.second) in
     let m = merge (g.F.Resource.book s.first) (g.S.Resource.book s.second) in
-    let q = λ (h : BankSound g.F.Resource g.S.Resource s). asked s.«open» r m x c.is-known.ensures (c.reads.ensures h) c.if-not-is-known-reads.false (c.claim.ensures h) c.if-is-some.ensures in
-    let room = λ (h : BankSound g.F.Resource g.S.Resource s). fewer_open s.«open» m (q h).is_open (c.count.ensures h) c.if-count-ge-MOST-CLAIMS.false in
+    let q = λ (h : BankSound g.F.Resource g.S.Resource s). asked s.«open» r m x c.is_known.ensures (c.reads.ensures h) c.if-not-is_known-reads.false (c.claim.ensures h) c.if-is_some.ensures in
+    let room = λ (h : BankSound g.F.Resource g.S.Resource s). fewer_open s.«open» m (q h).is_open (c.count.ensures h) c.if-count-ge-MOST_CLAIMS.false in
     let j = λ (h : BankSound g.F.Resource g.S.Resource s). joint g.F.Resource g.S.Resource (standing g.F.Resource f.lawful f.rising f.carried f.read) (standing g.S.Resource t.lawful t.rising t.carried t.read) s h (q h).is_open in
     let l : low s.split x ≡ false = lt-leb x.demand.shelf s.split (omega (arith, c.if-claim-self.false)) in
-    let d = c.hand-on-else-claim-self.ensures in
+    let d = c.hand_on-else-claim-self.ensures in
     record {
       kept = λ h. (h.0, d.kept h.1, λ o. sides_high (j h) x (q h).new (room h) l (d.placed h.1));
       placed = λ h. placed_open s.«open» (q h).is_open (placed-high (j h) x (q h).new (room h) l (d.placed h.1));

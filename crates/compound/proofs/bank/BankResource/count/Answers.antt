@@ -16,4 +16,4 @@ returns g c h =
     let y = c.count-2.ensures h.1 in
     let m = length-merge a b in
     let e = ap length (book_open s.«open» (merge a b) is) in
-    omega (arith, c.saturating-add.ensures)
+    omega (arith, c.saturating_add.ensures)

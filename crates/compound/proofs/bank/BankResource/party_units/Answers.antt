@@ -14,9 +14,9 @@ returns g c h =
     let is = c.if-not-self.false in
     let p = c.args.party.0 in
     let j = joint g.F.Resource g.S.Resource (standing g.F.Resource f.lawful f.rising f.carried f.read) (standing g.S.Resource t.lawful t.rising t.carried t.read) s h is in
-    let x = c.party-units.ensures h.0 in
-    let y = c.party-units-2.ensures h.1 in
+    let x = c.party_units.ensures h.0 in
+    let y = c.party_units-2.ensures h.1 in
     let few = joint_units-few j p in
     let both = joint_units j p in
     let e = units_open s.«open» (joined s.split (g.F.Resource.rules s.first) (g.S.Resource.rules s.second)) (merge (g.F.Resource.book s.first) (g.S.Resource.book s.second)) p is in
-    omega (arith, c.saturating-add.ensures)
+    omega (arith, c.saturating_add.ensures)

@@ -15,8 +15,8 @@ returns-then-units-limit g c =
     let x = c.args.claim in
     let r = g.R.Resource.rules s.below in
     let b = g.R.Resource.book s.below in
-    let q = λ (h : QuotaSound g.R.Resource s). asked s.«open» (limited s.limits r) b x c.is-known.ensures (c.reads.ensures h) c.if-not-is-known-reads.false (c.claim.ensures h) c.if-is-some.ensures in
-    let sum = λ (h : QuotaSound g.R.Resource s). summed (standing g.R.Resource f.lawful f.rising f.carried f.read s.below h.0) x.party.0 x.demand (c.party-units-before.ensures h.0) (c.units.ensures h.0) c.saturating-add-units.ensures in
+    let q = λ (h : QuotaSound g.R.Resource s). asked s.«open» (limited s.limits r) b x c.is_known.ensures (c.reads.ensures h) c.if-not-is_known-reads.false (c.claim.ensures h) c.if-is_some.ensures in
+    let sum = λ (h : QuotaSound g.R.Resource s). summed (standing g.R.Resource f.lawful f.rising f.carried f.read s.below h.0) x.party.0 x.demand (c.party_units-before.ensures h.0) (c.units.ensures h.0) c.saturating_add-units.ensures in
     record {
       kept = λ h. h;
       placed = λ h.
@@ -31,9 +31,9 @@ returns g c =
     let x = c.args.claim in
     let r = g.R.Resource.rules s.below in
     let b = g.R.Resource.book s.below in
-    let q = λ (h : QuotaSound g.R.Resource s). asked s.«open» (limited s.limits r) b x c.is-known.ensures (c.reads.ensures h) c.if-not-is-known-reads.false (c.claim.ensures h) c.if-is-some.ensures in
-    let sum = λ (h : QuotaSound g.R.Resource s). summed (standing g.R.Resource f.lawful f.rising f.carried f.read s.below h.0) x.party.0 x.demand (c.party-units-before.ensures h.0) (c.units.ensures h.0) c.saturating-add-units.ensures in
-    let d = c.hand-on.ensures in
+    let q = λ (h : QuotaSound g.R.Resource s). asked s.«open» (limited s.limits r) b x c.is_known.ensures (c.reads.ensures h) c.if-not-is_known-reads.false (c.claim.ensures h) c.if-is_some.ensures in
+    let sum = λ (h : QuotaSound g.R.Resource s). summed (standing g.R.Resource f.lawful f.rising f.carried f.read s.below h.0) x.party.0 x.demand (c.party_units-before.ensures h.0) (c.units.ensures h.0) c.saturating_add-units.ensures in
+    let d = c.hand_on.ensures in
     let more = λ (h : QuotaSound g.R.Resource s) (k : KeepsLimits s.limits r.counts b). (
     let room : units_of r.counts x.party.0 b + r.counts x.demand ≤ limit_of s.limits x.party.0 = let n = sum h in omega (arith, c.if-units-limit.false, c.limit.ensures) in
     keeps_insert s.limits r.counts x b k room) in

@@ -6,14 +6,14 @@ use Rattle.goods.specs.Shelves.{most_goods}
 use Rattle.goods.specs.Items.{apart}
 use Rattle.goods.proofs.named.Named.new.Goals as goal
 
-pub returns-in-err-claims : goal.returns-in-err-claims
-returns-in-err-claims c = record {
-  opened = IfOk-from_err c.from-residual.result _ c.from-residual.ensures.0;
+pub returns-in_err-claims : goal.returns-in_err-claims
+returns-in_err-claims c = record {
+  opened = IfOk-from_err c.from_residual.result _ c.from_residual.ensures.0;
   items = apart c.args.shelf (min c.args.goods most_goods) (omega arith);
 }
 
 pub returns : goal.returns
 returns c = record {
-  opened = record { ruled = ap (named c.args.shelf) c.min.ensures; unclaimed = c.in-ok-claims.ensures };
+  opened = record { ruled = ap (named c.args.shelf) c.min.ensures; unclaimed = c.in_ok-claims.ensures };
   items = apart c.args.shelf (min c.args.goods most_goods) (omega arith);
 }

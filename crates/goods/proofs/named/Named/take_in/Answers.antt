@@ -8,25 +8,25 @@ use Rattle.goods.specs.Shelving.{Entered, turned_away, falls_short, comes_in}
 use Rattle.goods.proofs.named.Named.take_in.Goals as goal
 use Rattle.goods.proofs.named.Named.take_in.Goals.{After-insert}
 
-pub returns-in-err-check-entry : goal.returns-in-err-check-entry
-returns-in-err-check-entry c =
+pub returns-in_err-check_entry : goal.returns-in_err-check_entry
+returns-in_err-check_entry c =
     let s = c.args.self.now in
-    let p = err_from_is_err_and c.from-residual.result c.from-residual.ensures.1 in
-    rw (p.1, p.2) (turned_away s.shelf (named_kind s.goods) (named_book s) c.args.claim _ (c.reads.ensures tt) _ c.in-err-check-entry.ensures)
+    let p = err_from_is_err_and c.from_residual.result c.from_residual.ensures.1 in
+    rw (p.1, p.2) (turned_away s.shelf (named_kind s.goods) (named_book s) c.args.claim _ (c.reads.ensures tt) _ c.in_err-check_entry.ensures)
 
-pub returns-then-not-is-enough-with : goal.returns-then-not-is-enough-with
-returns-then-not-is-enough-with c =
+pub returns-then-not-is_enough_with : goal.returns-then-not-is_enough_with
+returns-then-not-is_enough_with c =
     let s = c.args.self.now in
-    falls_short s.shelf (named_kind s.goods) (named_book s) c.args.claim _ (c.reads.ensures tt) c.in-ok-check-entry.ensures (sym c.if-not-is-enough-with.ensures)
+    falls_short s.shelf (named_kind s.goods) (named_book s) c.args.claim _ (c.reads.ensures tt) c.in_ok-check_entry.ensures (sym c.if-not-is_enough_with.ensures)
 
 -- the claim that came in
 in-book : (c : goal.After-insert) → Entered c.args.self.now.shelf (named_kind c.args.self.now.goods) (named_book c.args.self.now) (claims_book c.insert.new.self) c.args.claim
 in-book c =
     let s = c.args.self.now in
-    comes_in s.shelf (named_kind s.goods) (named_book s) c.args.claim _ (c.reads.ensures tt) (claims_book c.insert.new.self) s.reads c.in-ok-check-entry.ensures (sym c.if-not-is-enough-with.ensures) c.insert.ensures.after
+    comes_in s.shelf (named_kind s.goods) (named_book s) c.args.claim _ (c.reads.ensures tt) (claims_book c.insert.new.self) s.reads c.in_ok-check_entry.ensures (sym c.if-not-is_enough_with.ensures) c.insert.ensures.after
 
-pub invariant-of-self : goal.invariant-of-self
-invariant-of-self c =
+pub invariant_of-self : goal.invariant_of-self
+invariant_of-self c =
     let e = in-book c in
     (c.args.self.now.sized, (e.carried, (e.all_read, tt)))
 

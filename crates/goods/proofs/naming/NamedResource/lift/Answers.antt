@@ -8,14 +8,14 @@ use Rattle.goods.specs.Items.{named-goods}
 use Rattle.goods.specs.Shelving.{stays, leaves}
 use Rattle.goods.proofs.naming.NamedResource.lift.Goals as goal
 
-pub returns-in-err-held-under : goal.returns-in-err-held-under
-returns-in-err-held-under c =
+pub returns-in_err-held_under : goal.returns-in_err-held_under
+returns-in_err-held_under c =
     let s = c.args.self.now in
-    let p = err_from_is_err_and c.from-residual.result c.from-residual.ensures.1 in
-    rw (p.1, p.2) (record { kept = λ _. tt; lifted = λ _. stays c.args.key (named_rules s) (named_book s) _ (sym c.in-err-held-under.ensures) })
+    let p = err_from_is_err_and c.from_residual.result c.from_residual.ensures.1 in
+    rw (p.1, p.2) (record { kept = λ _. tt; lifted = λ _. stays c.args.key (named_rules s) (named_book s) _ (sym c.in_err-held_under.ensures) })
 
-pub invariant-of-self : goal.invariant-of-self
-invariant-of-self c =
+pub invariant_of-self : goal.invariant_of-self
+invariant_of-self c =
     let s = c.args.self.now in
     let b = named_book s in
     let l = leaves (named_rules s) (fixed_laws s.shelf (named-goods s.goods s.sized)) b _ c.args.key.0 (rises_says b s.claims.ordered) s.carries s.reads c.remove.ensures.after in

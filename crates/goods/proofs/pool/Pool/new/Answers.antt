@@ -6,14 +6,14 @@ use Rattle.goods.specs.Pooled.{pool}
 use Rattle.goods.specs.Pools.{escrow}
 use Rattle.goods.proofs.pool.Pool.new.Goals as goal
 
-pub returns-in-err-claims : goal.returns-in-err-claims
-returns-in-err-claims c = record {
-  opened = IfOk-from_err c.from-residual.result _ c.from-residual.ensures.0;
+pub returns-in_err-claims : goal.returns-in_err-claims
+returns-in_err-claims c = record {
+  opened = IfOk-from_err c.from_residual.result _ c.from_residual.ensures.0;
   escrow = escrow c.args.shelf (min c.args.size most_units);
 }
 
 pub returns : goal.returns
 returns c = record {
-  opened = record { ruled = ap (pool c.args.shelf) c.min.ensures; unclaimed = c.in-ok-claims.ensures };
+  opened = record { ruled = ap (pool c.args.shelf) c.min.ensures; unclaimed = c.in_ok-claims.ensures };
   escrow = escrow c.args.shelf (min c.args.size most_units);
 }

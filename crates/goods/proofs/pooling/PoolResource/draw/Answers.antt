@@ -6,18 +6,18 @@ use Rattle.goods.specs.Views.{pool_book}
 use Rattle.goods.specs.Fixed.{Gone, goes-out_as}
 use Rattle.goods.specs.Pools.{pool-goods, quantities-out}
 use Rattle.goods.proofs.pooling.PoolResource.draw.Goals as goal
-use Rattle.goods.proofs.pooling.PoolResource.draw.Goals.{After-send-out}
+use Rattle.goods.proofs.pooling.PoolResource.draw.Goals.{After-send_out}
 
-gone : (c : goal.After-send-out) → Gone c.args.self.now.shelf (pool-goods c.args.self.now.size) c.args.key (pool_book c.args.self.now) (claims_book c.send-out.new.self) c.in-ok-waiting-under.field-0
+gone : (c : goal.After-send_out) → Gone c.args.self.now.shelf (pool-goods c.args.self.now.size) c.args.key (pool_book c.args.self.now) (claims_book c.send_out.new.self) c.in_ok-waiting_under.field-0
 gone c =
     let s = c.args.self.now in
-    goes-out_as s.shelf (pool-goods s.size) c.args.key (pool_book s) (claims_book c.send-out.new.self) c.in-ok-waiting-under.field-0 s.carries s.reads (sym c.in-ok-waiting-under.ensures) c.send-out.ensures
+    goes-out_as s.shelf (pool-goods s.size) c.args.key (pool_book s) (claims_book c.send_out.new.self) c.in_ok-waiting_under.field-0 s.carries s.reads (sym c.in_ok-waiting_under.ensures) c.send_out.ensures
 
-pub invariant-of-self : goal.invariant-of-self
-invariant-of-self c =
+pub invariant_of-self : goal.invariant_of-self
+invariant_of-self c =
     let s = c.args.self.now in
     let g = gone c in
-    (s.sized, (s.summed ∙ sym (ap quantities c.send-out.ensures ∙ quantities-out c.args.key.0 0 (pool_book s)), (g.carried, (g.all-read, tt))))
+    (s.sized, (s.summed ∙ sym (ap quantities c.send_out.ensures ∙ quantities-out c.args.key.0 0 (pool_book s)), (g.carried, (g.all-read, tt))))
 
 pub returns : goal.returns
-returns c = record { kept = λ _. tt; drawn = λ _. (gone (goal.at.returns c).After-send-out).drawn }
+returns c = record { kept = λ _. tt; drawn = λ _. (gone (goal.at.returns c).After-send_out).drawn }

@@ -10,25 +10,25 @@ use Rattle.goods.specs.Pools.{pool-goods, quantities_lift}
 use Rattle.goods.specs.Shelving.{stays, lies_there, leaves}
 use Rattle.goods.proofs.pooling.PoolResource.lift.Goals as goal
 
-pub returns-in-err-claim : goal.returns-in-err-claim
-returns-in-err-claim c =
+pub returns-in_err-claim : goal.returns-in_err-claim
+returns-in_err-claim c =
     let s = c.args.self.now in
-    let p = err_from_is_err_and c.from-residual.result c.from-residual.ensures.1 in
-    rw (p.1, p.2) (record { kept = λ _. tt; lifted = λ _. stays c.args.key (pool_rules s) (pool_book s) _ (sym c.in-err-claim.ensures) })
+    let p = err_from_is_err_and c.from_residual.result c.from_residual.ensures.1 in
+    rw (p.1, p.2) (record { kept = λ _. tt; lifted = λ _. stays c.args.key (pool_rules s) (pool_book s) _ (sym c.in_err-claim.ensures) })
 
-pub overflow-sub-self : goal.overflow-sub-self
-overflow-sub-self c =
+pub overflow_sub-self : goal.overflow_sub-self
+overflow_sub-self c =
     let s = c.args.self.now in
     let k = c.args.key in
     let b = pool_book s in
-    omega (arith, s.summed, quantities_lift k.0 c.in-ok-claim.claim b (lies_there k (find b k.0) c.in-ok-claim.claim (sym c.in-ok-claim.ensures)))
+    omega (arith, s.summed, quantities_lift k.0 c.in_ok-claim.claim b (lies_there k (find b k.0) c.in_ok-claim.claim (sym c.in_ok-claim.ensures)))
 
-pub invariant-of-self : goal.invariant-of-self
-invariant-of-self c =
+pub invariant_of-self : goal.invariant_of-self
+invariant_of-self c =
     let s = c.args.self.now in
     let k = c.args.key in
     let b = pool_book s in
     let e = c.remove.ensures.after in
-    let q = quantities_lift k.0 c.in-ok-claim.claim b (lies_there k (find b k.0) c.in-ok-claim.claim (sym c.in-ok-claim.ensures)) in
+    let q = quantities_lift k.0 c.in_ok-claim.claim b (lies_there k (find b k.0) c.in_ok-claim.claim (sym c.in_ok-claim.ensures)) in
     let l = leaves (pool_rules s) (fixed_laws s.shelf (pool-goods s.size)) b _ k.0 (rises_says b s.claims.ordered) s.carries s.reads e in
     (s.sized, (omega (arith, s.summed, q, ap quantities e), (l.0, (l.1, tt))))

@@ -17,30 +17,30 @@ use Rattle.listed.proofs.listing.ListedResource.lift.Given.{Over}
 use Rattle.listed.proofs.listing.ListedResource.lift.Goals as goal
 use Rattle.listed.proofs.listing.ListedResource.lift.Goals.{After-remove}
 
-pub returns-in-err-held-under : goal.returns-in-err-held-under
-returns-in-err-held-under g c =
+pub returns-in_err-held_under : goal.returns-in_err-held_under
+returns-in_err-held_under g c =
     let s = c.args.self.now in
-    let p = err_from_is_err_and c.from-residual.result c.from-residual.ensures.1 in
-    rw (p.1, p.2) (record { kept = λ h. h; lifted = λ _. stays c.args.key (list_rules g.G.Suits s) (list_book s) _ (sym c.in-err-held-under.ensures) })
+    let p = err_from_is_err_and c.from_residual.result c.from_residual.ensures.1 in
+    rw (p.1, p.2) (record { kept = λ h. h; lifted = λ _. stays c.args.key (list_rules g.G.Suits s) (list_book s) _ (sym c.in_err-held_under.ensures) })
 
 -- what stands under the key, and where
-there : (g : Over) (c : goal.After-remove g) → (find (list_book c.args.self.now) c.args.key.0 ≡ Some c.in-ok-held-under.field-0) × Stands c.args.key.0 (list_book c.args.self.now) c.rank-at.result
+there : (g : Over) (c : goal.After-remove g) → (find (list_book c.args.self.now) c.args.key.0 ≡ Some c.in_ok-held_under.field-0) × Stands c.args.key.0 (list_book c.args.self.now) c.rank-at.result
 there g c =
     let s = c.args.self.now in
     let b = list_book s in
     let k = c.args.key in
-    let f = lies_there k (find b k.0) c.in-ok-held-under.field-0 (sym c.in-ok-held-under.ensures) in
-    (f, subst (Stands k.0 b) (sym c.rank-at.ensures) (found_stands k.0 b c.in-ok-held-under.field-0 (rises_says b s.claims.ordered) f))
+    let f = lies_there k (find b k.0) c.in_ok-held_under.field-0 (sym c.in_ok-held_under.ensures) in
+    (f, subst (Stands k.0 b) (sym c.rank-at.ensures) (found_stands k.0 b c.in_ok-held_under.field-0 (rises_says b s.claims.ordered) f))
 
 pub remove-requires-2 : goal.remove-requires-2
 remove-requires-2 g c = omega (arith, (there g (goal.at.remove-requires-2 g c).After-remove).1.within, c.args.self.now.paired)
 
-pub invariant-of-self : goal.invariant-of-self
-invariant-of-self g c =
+pub invariant_of-self : goal.invariant_of-self
+invariant_of-self g c =
     let s = c.args.self.now in
     let b = list_book s in
     let k = c.args.key.0 in
-    let at = (there g (goal.at.invariant-of-self g c).After-remove).1 in
+    let at = (there g (goal.at.invariant_of-self g c).After-remove).1 in
     let gone : length (claims_book c.remove.new.self) ≡ length (remove (list_book c.args.self.now) c.rank-at.result) = ap length (c.remove.ensures.after ∙ sym (stands_removed k b c.rank-at.result (stands_some k b c.rank-at.result at).0 at)) in
     let less = length-remove b c.rank-at.result at.within in
     (s.sized, (omega (arith, s.paired, c.remove-2.ensures.len), (omega (arith, s.roomy, c.remove-2.ensures.capacity), tt)))
