@@ -1,5 +1,5 @@
 -- What a kind of resource means, and what every kind keeps to.
-use Rattle.std.specs.Prelude.{◌≡◌, ℕ, ◌+◌, ◌<◌, ◌≤◌, Bool, true, false, cond, ◌&&◌, List, [], ◌∷◌, length, is_some, Some, None, Ok, Err, Option, Result, nat_le, nat_lt}
+use Rattle.std.specs.Prelude.{◌≡◌, ℕ, ◌≤◌, Bool, true, false, cond, ◌&&◌, [], length, is_some, Some, None, Ok, Err, Option, Result, nat_le, nat_lt}
 use Rattle.claims.specs.declared.Claim.{Claim}
 use Rattle.claims.specs.declared.ClaimState.TheVariants.{Waiting, Out}
 use Rattle.claims.specs.declared.Demand.{Demand}

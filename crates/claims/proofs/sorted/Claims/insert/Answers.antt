@@ -1,4 +1,4 @@
-use Rattle.std.proofs.Common.{◌≡◌, ℕ, ◌<◌, ◌≤◌, true, false, ltb, length, is_some, is_ok, None, vec_items, sym, ap, ◌∙◌, arith}
+use Rattle.std.proofs.Common.{◌≡◌, ◌<◌, ◌≤◌, true, ltb, length, is_some, is_ok, None, vec_items, sym, ap, ◌∙◌, arith}
 use Rattle.std.proofs.lemmas.Bool.{lt-ltb, cond-true, cond-false}
 use Rattle.claims.specs.Book.{find, insert}
 use Rattle.claims.specs.Held.{claims_book}
@@ -30,13 +30,12 @@ invariant_of-self c =
     let x = c.args.claim in
     let b = claims_book s in
     let t = taken_in c in
-    let more : length (vec_items c.insert.new.self) ≤ most_claims = omega (arith, t.0, ap length t.2, length-insert x b) in (
-      omega (arith, s.roomy, c.insert.ensures.capacity),
-      (
-        omega (arith, more, c.insert.new.self.ok.0),
-        (ap rises t.2 ∙ rises_shows (insert x b) (rising-insert x b (rises_says b s.ordered) t.1), tt),
-      ),
-    )
+    let more : length (vec_items c.insert.new.self) ≤ most_claims = omega (arith, t.0, ap length t.2, length-insert x b) in
+    record {
+      roomy = omega (arith, s.roomy, c.insert.ensures.capacity);
+      few = omega (arith, more, c.insert.new.self.ok.0);
+      ordered = ap rises t.2 ∙ rises_shows (insert x b) (rising-insert x b (rises_says b s.ordered) t.1);
+    }
 
 pub returns : goal.returns
 returns c =

@@ -1,7 +1,7 @@
-use Rattle.std.proofs.Common.{◌≡◌, ℕ, ◌+◌, ◌*◌, ◌<◌, ◌≤◌, length, get_or, sym, ap, ◌∙◌, arith, rules}
+use Rattle.std.proofs.Common.{◌≡◌, ◌+◌, ◌≤◌, length, get_or, sym, ap, ◌∙◌, arith, rules}
 use Rattle.claims.specs.Book.{Book}
 use Rattle.claims.specs.Held.{claims_book}
-use Rattle.claims.specs.Units.{share, units_of}
+use Rattle.claims.specs.Units.{share}
 use Rattle.claims.specs.declared.Claim.{Claim}
 use Rattle.claims.specs.declared.ClaimState.TheVariants.{Waiting}
 use Rattle.claims.proofs.Shares.{units_more, units_end}

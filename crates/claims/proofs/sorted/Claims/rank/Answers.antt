@@ -1,4 +1,4 @@
-use Rattle.std.proofs.Common.{◌≡◌, ◌+◌, ◌-◌, ◌/◌, ◌<◌, ◌≤◌, length, get_or, arith}
+use Rattle.std.proofs.Common.{◌+◌, ◌-◌, ◌/◌, ◌<◌, length, arith}
 use Rattle.claims.specs.Held.{claims_book}
 use Rattle.claims.proofs.Ranks.{rank-within, rank_past, rank-before, rises_says}
 use Rattle.claims.proofs.sorted.Claims.rank.Goals as goal

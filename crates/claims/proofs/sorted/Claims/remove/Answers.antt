@@ -1,4 +1,4 @@
-use Rattle.std.proofs.Common.{◌≡◌, vec_items, vec_len, vec_capacity, sym, ap, ◌∙◌, arith}
+use Rattle.std.proofs.Common.{vec_items, sym, ap, ◌∙◌, arith}
 use Rattle.claims.specs.Book.{without}
 use Rattle.claims.specs.Places.{rises}
 use Rattle.claims.proofs.Books.{rising-without, without_absent}
@@ -12,13 +12,12 @@ pub invariant_of-self : goal.invariant_of-self
 invariant_of-self c =
     let s = c.args.self.now in
     let b = vec_items s.items in
-    let k = c.args.key.0 in (
-      omega (arith, s.roomy, c.remove.ensures.capacity),
-      (
-        omega (arith, s.few, c.remove.ensures.len),
-        (ap rises (c.remove.ensures.items ∙ stands_removed k b c.in-Some.i c.remove.result c.in-Some.ensures) ∙ rises_shows (without k b) (rising-without k b (rises_says b s.ordered)), tt),
-      ),
-    )
+    let k = c.args.key.0 in
+    record {
+      roomy = omega (arith, s.roomy, c.remove.ensures.capacity);
+      few = omega (arith, s.few, c.remove.ensures.len);
+      ordered = ap rises (c.remove.ensures.items ∙ stands_removed k b c.in-Some.i c.remove.result c.in-Some.ensures) ∙ rises_shows (without k b) (rising-without k b (rises_says b s.ordered));
+    }
 
 pub returns-in-None : goal.returns-in-None
 returns-in-None c = record { value = sym c.in-None.ensures; after = sym (without_absent c.args.key.0 (vec_items c.args.self.now.items) c.in-None.ensures) }

@@ -1,4 +1,4 @@
-use Rattle.std.proofs.Common.{◌≡◌, vec_items, sym, ap, ◌∙◌}
+use Rattle.std.proofs.Common.{vec_items, sym, ap, ◌∙◌}
 use Rattle.claims.specs.Book.{out}
 use Rattle.claims.specs.Places.{rises}
 use Rattle.claims.proofs.Books.{rising-out, out_absent}
@@ -10,13 +10,12 @@ invariant_of-self c =
     let s = c.args.self.now in
     let b = vec_items s.items in
     let k = c.args.key.0 in
-    let u = c.args.unit.0 in (
-      s.roomy,
-      (
-        s.few,
-        (ap rises (stands_out k u b c.in-Some.i c.index-claim.result.now c.in-Some.ensures c.index-claim.ensures) ∙ rises_shows (out k u b) (rising-out k u b (rises_says b s.ordered)), tt),
-      ),
-    )
+    let u = c.args.unit.0 in
+    record {
+      roomy = s.roomy;
+      few = s.few;
+      ordered = ap rises (stands_out k u b c.in-Some.i c.index-claim.result.now c.in-Some.ensures c.index-claim.ensures) ∙ rises_shows (out k u b) (rising-out k u b (rises_says b s.ordered));
+    }
 
 pub returns-in-Some : goal.returns-in-Some
 returns-in-Some c = stands_out c.args.key.0 c.args.unit.0 (vec_items c.args.self.now.items) c.in-Some.i c.index-claim.result.now c.in-Some.ensures c.index-claim.ensures
