@@ -8,7 +8,6 @@ ghost use Rattle.resource.specs.Calls.{Placed};
 ghost use Rattle.goods.specs.Fixed.{fixed_laws};
 ghost use Rattle.goods.specs.Pools.{pool-goods};
 ghost use Rattle.claims.proofs.Ranks.{rises_says};
-ghost use Rattle.std.proofs.Common.{rules, arith};
 
 use crate::pool::Pool;
 use crate::shelf::{
@@ -85,9 +84,9 @@ impl Resource for Pool {
 
     ghost rising = { λ s _. rises_says (pool_book s) s.claims.ordered };
 
-    ghost carried = { first_of (Prim.search rules, Prim.grind (arith, Self.row.coded.inj)) };
+    ghost carried = { λ s _. s.carries };
 
-    ghost read = { first_of (Prim.search rules, Prim.grind (arith, Self.row.coded.inj)) };
+    ghost read = { λ s _. s.reads };
 
     fn place(&mut self, key: ClaimKey, party: Party, demand: Demand) -> Result<(), Fault> {
         self.take_in(Claim::waiting(key, party, demand))

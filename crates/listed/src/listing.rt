@@ -136,7 +136,7 @@ impl<G: Suits> Resource for Listed<G> {
         let b = list_book s in
         carries_shows s.shelf (list_kind F G.Suits.formed s.goods.items) b (omega (arith, s.claims.few, s.claims.items.ok.0)) (matching_carried F s.goods.items b s.allotment.items h.matched) };
 
-    ghost read = { first_of (Prim.search rules, Prim.grind (arith, Self.row.coded.inj)) };
+    ghost read = { λ s _. s.reads };
 
     fn place(&mut self, key: ClaimKey, party: Party, demand: Demand) -> Result<(), Fault> {
         self.take_in(Claim::waiting(key, party, demand))

@@ -28,7 +28,7 @@ in-book c =
 pub invariant_of-self : goal.invariant_of-self
 invariant_of-self c =
     let e = in-book c in
-    (c.args.self.now.sized, (e.carried, (e.all_read, tt)))
+    record { sized = c.args.self.now.sized; carries = e.carried; reads = e.all_read }
 
 pub returns : goal.returns
 returns c = (in-book (goal.at.returns c).After-insert).placed

@@ -15,7 +15,7 @@ gone c =
 pub invariant_of-self : goal.invariant_of-self
 invariant_of-self c =
     let g = gone c in
-    (c.args.self.now.sized, (g.carried, (g.all-read, tt)))
+    record { sized = c.args.self.now.sized; carries = g.carried; reads = g.all_read }
 
 pub returns : goal.returns
 returns c = record { kept = λ _. tt; drawn = λ _. (gone (goal.at.returns c).After-send_out).drawn }

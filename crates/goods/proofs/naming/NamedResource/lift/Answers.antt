@@ -19,4 +19,4 @@ invariant_of-self c =
     let s = c.args.self.now in
     let b = named_book s in
     let l = leaves (named_rules s) (fixed_laws s.shelf (named-goods s.goods s.sized)) b _ c.args.key.0 (rises_says b s.claims.ordered) s.carries s.reads c.remove.ensures.after in
-    (s.sized, (l.0, (l.1, tt)))
+    record { sized = s.sized; carries = l.0; reads = l.1 }

@@ -31,7 +31,7 @@ invariant_of-self c =
     let s = c.args.self.now in
     let x = c.args.claim in
     let e = in-book c in
-    (s.sized, (omega (arith, s.summed, ap quantities e.inserted, quantities-insert x (pool_book s)), (e.carried, (e.all_read, tt))))
+    record { sized = s.sized; summed = omega (arith, s.summed, ap quantities e.inserted, quantities-insert x (pool_book s)); carries = e.carried; reads = e.all_read }
 
 pub returns : goal.returns
 returns c = (in-book (goal.at.returns c).After-insert).placed

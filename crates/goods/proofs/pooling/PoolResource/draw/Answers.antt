@@ -17,7 +17,7 @@ pub invariant_of-self : goal.invariant_of-self
 invariant_of-self c =
     let s = c.args.self.now in
     let g = gone c in
-    (s.sized, (s.summed ∙ sym (ap quantities c.send_out.ensures ∙ quantities-out c.args.key.0 0 (pool_book s)), (g.carried, (g.all-read, tt))))
+    record { sized = s.sized; summed = s.summed ∙ sym (ap quantities c.send_out.ensures ∙ quantities-out c.args.key.0 0 (pool_book s)); carries = g.carried; reads = g.all_read }
 
 pub returns : goal.returns
 returns c = record { kept = λ _. tt; drawn = λ _. (gone (goal.at.returns c).After-send_out).drawn }

@@ -31,4 +31,4 @@ invariant_of-self c =
     let e = c.remove.ensures.after in
     let q = quantities_lift k.0 c.in_ok-claim.claim b (lies_there k (find b k.0) c.in_ok-claim.claim (sym c.in_ok-claim.ensures)) in
     let l = leaves (pool_rules s) (fixed_laws s.shelf (pool-goods s.size)) b _ k.0 (rises_says b s.claims.ordered) s.carries s.reads e in
-    (s.sized, (omega (arith, s.summed, q, ap quantities e), (l.0, (l.1, tt))))
+    record { sized = s.sized; summed = omega (arith, s.summed, q, ap quantities e); carries = l.0; reads = l.1 }
