@@ -1,3 +1,2 @@
 pub mod Outs
 pub mod Sides
-pub mod Banks

@@ -7,3 +7,4 @@ pub mod Joins
 pub mod Quotas
 pub mod Sums
 pub mod Wholes
+pub mod Banks

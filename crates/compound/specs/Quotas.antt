@@ -17,8 +17,10 @@ use Rattle.claims.specs.Units.{share, units_of}
 use Rattle.resource.specs.Calls.{Placed, Lifted, Drawn, kept_in, gone_out}
 use Rattle.resource.specs.Draws.{drawn}
 use Rattle.resource.proofs.Refusals.{refused}
-use Rattle.compound.specs.Limited.{limit_of, within, limited, KeepsLimits, CarriedWithin}
-use Rattle.compound.specs.Openings.{Standing}
+use Rattle.resource.specs.declared.Resource.{Ghosts}
+use Rattle.compound.specs.declared.quota.Quota.{Quota}
+use Rattle.compound.specs.Limited.{limit_of, within, limited, KeepsLimits, CarriedWithin, quota_rules, quota_book, QuotaSound}
+use Rattle.compound.specs.Openings.{Standing, opened_stands}
 use Rattle.compound.specs.Sums.{units-insert, units-without, units-out, units-few, counts-few}
 use Rattle.compound.specs.Wholes.{drawn_like, placed-whole, lifted-whole, drawn-whole}
 
@@ -152,3 +154,7 @@ module _ (limits : List ℕ) (r : Rules) (b : Book) (h : KeepsLimits limits r.co
       drawn-whole (limited limits) (λ z. z) refl
       (drawn_like (limited limits r) r b b k.0 (λ u. ap (λ v. v && r.carries (out k.0 u b)) ((within_decides limits r.counts (out k.0 u b)).1 (keeps_out limits r.counts k.0 u b h))))
       (λ u. refl)
+
+-- what holds of a quota between calls, from what holds of the goods below it
+pub quota_stands : {R : Type 0} (m : Ghosts R) (q : Quota R) → Laws (limited q.limits (m.rules q.below)) → ((x : R) → m.sound x → Standing (m.rules x) (m.book x)) → QuotaSound m q → Standing (quota_rules m q) (quota_book m q)
+quota_stands m q l p h = opened_stands q.«open» _ _ l (λ is. limited_stands q.limits (p q.below h.0) (h.1 is))

@@ -3,7 +3,8 @@ ghost use Rattle.claims.specs.Book.{Book, merge};
 ghost use Rattle.compound.specs.Joined.{bank, bank_book, bank_rules, BankSound, CarriedByBoth, joined};
 ghost use Rattle.compound.specs.Opened.{Fresh};
 ghost use Rattle.compound.specs.Taking.{Takes};
-ghost use Rattle.compound.specs.Openings.{opened_laws};
+ghost use Rattle.compound.specs.Openings.{opened_laws, standing};
+ghost use Rattle.compound.specs.Banks.{bank_stands};
 ghost use Rattle.compound.specs.Joins.{joined_laws};
 
 use crate::taking::hand_on;
@@ -75,6 +76,12 @@ impl<F: Resource, S: Resource> Resource for Bank<F, S> {
     ghost sound = { BankSound F.Resource S.Resource };
 
     ghost lawful = { λ s. opened_laws s.«open» _ (joined_laws s.split _ _ (F.Resource.lawful s.first) (S.Resource.lawful s.second)) };
+
+    ghost rising = { λ s h. (bank_stands F.Resource.own S.Resource.own s (joined_laws s.split _ _ (F.Resource.lawful s.first) (S.Resource.lawful s.second)) (standing F.Resource.own F.Resource.lawful F.Resource.rising F.Resource.carried F.Resource.read) (standing S.Resource.own S.Resource.lawful S.Resource.rising S.Resource.carried S.Resource.read) h).rising };
+
+    ghost carried = { λ s h. (bank_stands F.Resource.own S.Resource.own s (joined_laws s.split _ _ (F.Resource.lawful s.first) (S.Resource.lawful s.second)) (standing F.Resource.own F.Resource.lawful F.Resource.rising F.Resource.carried F.Resource.read) (standing S.Resource.own S.Resource.lawful S.Resource.rising S.Resource.carried S.Resource.read) h).carried };
+
+    ghost read = { λ s h. (bank_stands F.Resource.own S.Resource.own s (joined_laws s.split _ _ (F.Resource.lawful s.first) (S.Resource.lawful s.second)) (standing F.Resource.own F.Resource.lawful F.Resource.rising F.Resource.carried F.Resource.read) (standing S.Resource.own S.Resource.lawful S.Resource.rising S.Resource.carried S.Resource.read) h).read };
 
     fn place(&mut self, key: ClaimKey, party: Party, demand: Demand) -> Result<(), Fault> {
         self.take_in(Claim::waiting(key, party, demand))

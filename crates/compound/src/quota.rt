@@ -4,8 +4,8 @@ ghost use Rattle.claims.specs.Limits.{last_party};
 ghost use Rattle.compound.specs.Limited.{CarriedWithin, limit_of, limited, quota, quota_book, quota_rules, QuotaSound};
 ghost use Rattle.compound.specs.Opened.{Fresh};
 ghost use Rattle.compound.specs.Taking.{Takes};
-ghost use Rattle.compound.specs.Openings.{opened_laws};
-ghost use Rattle.compound.specs.Quotas.{limited_laws};
+ghost use Rattle.compound.specs.Openings.{opened_laws, standing};
+ghost use Rattle.compound.specs.Quotas.{limited_laws, quota_stands};
 
 use crate::taking::hand_on;
 use claims::{Cause, Claim, ClaimKey, Demand, Fault, ItemNumber, LAST_PARTY, Party};
@@ -88,6 +88,12 @@ impl<R: Resource> Resource for Quota<R> {
     ghost sound = { QuotaSound R.Resource };
 
     ghost lawful = { λ s. opened_laws s.«open» _ (limited_laws s.limits _ (R.Resource.lawful s.below)) };
+
+    ghost rising = { λ s h. (quota_stands R.Resource.own s (limited_laws s.limits _ (R.Resource.lawful s.below)) (standing R.Resource.own R.Resource.lawful R.Resource.rising R.Resource.carried R.Resource.read) h).rising };
+
+    ghost carried = { λ s h. (quota_stands R.Resource.own s (limited_laws s.limits _ (R.Resource.lawful s.below)) (standing R.Resource.own R.Resource.lawful R.Resource.rising R.Resource.carried R.Resource.read) h).carried };
+
+    ghost read = { λ s h. (quota_stands R.Resource.own s (limited_laws s.limits _ (R.Resource.lawful s.below)) (standing R.Resource.own R.Resource.lawful R.Resource.rising R.Resource.carried R.Resource.read) h).read };
 
     fn place(&mut self, key: ClaimKey, party: Party, demand: Demand) -> Result<(), Fault> {
         self.take_in(Claim::waiting(key, party, demand))

@@ -8,7 +8,7 @@ use Rattle.compound.specs.Joined.{joined, low, BankSound}
 use Rattle.compound.specs.Openings.{standing, book_open, asked, fewer_open, placed_open}
 use Rattle.compound.specs.Wholes.{placed-not}
 use Rattle.compound.specs.Joins.{refusal_full}
-use Rattle.compound.proofs.Banks.{joint, placed-low, placed-high, sides_low, sides_high}
+use Rattle.compound.specs.Banks.{joint, placed-low, placed-high, sides_low, sides_high}
 use Rattle.compound.proofs.bank.Bank.take_in.Goals as goal
 
 pub returns-then-count-ge-MOST_CLAIMS : goal.returns-then-count-ge-MOST_CLAIMS

@@ -1,7 +1,7 @@
 -- The side that holds the claim lets it out as the bank would.
 use Rattle.compound.specs.Openings.{standing, drawn_open}
 use Rattle.compound.proofs.Sides.{sides_drawn-first, sides_drawn-second}
-use Rattle.compound.proofs.Banks.{joint, has, drawn-first, drawn-second}
+use Rattle.compound.specs.Banks.{joint, has, drawn-first, drawn-second}
 use Rattle.compound.proofs.bank.BankResource.draw.Goals as goal
 
 pub returns-then-is_some : goal.returns-then-is_some

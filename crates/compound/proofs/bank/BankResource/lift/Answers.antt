@@ -1,7 +1,7 @@
 -- The side that holds the claim lifts it as the bank would.
 use Rattle.compound.specs.Openings.{standing, lifted_open}
 use Rattle.compound.proofs.Sides.{sides_lifted-first, sides_lifted-second}
-use Rattle.compound.proofs.Banks.{joint, has, lifted-first, lifted-second}
+use Rattle.compound.specs.Banks.{joint, has, lifted-first, lifted-second}
 use Rattle.compound.proofs.bank.BankResource.lift.Goals as goal
 
 pub returns-then-is_some : goal.returns-then-is_some

@@ -3,7 +3,7 @@ use Rattle.std.proofs.Common.{arith}
 use Rattle.claims.specs.Book.{merge}
 use Rattle.compound.specs.Joined.{joined}
 use Rattle.compound.specs.Openings.{standing, units_open}
-use Rattle.compound.proofs.Banks.{joint, joint_units, joint_units-few}
+use Rattle.compound.specs.Banks.{joint, joint_units, joint_units-few}
 use Rattle.compound.proofs.bank.BankResource.party_units.Goals as goal
 
 pub returns : goal.returns

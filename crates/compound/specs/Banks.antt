@@ -9,15 +9,15 @@ use Rattle.claims.specs.declared.Fault.{Fault}
 use Rattle.claims.specs.declared.ItemNumber.{ItemNumber}
 use Rattle.claims.specs.Book.{Book, key_of, find, insert, out, Rising, kept, every, merge}
 use Rattle.claims.specs.Limits.{most_claims, most_units}
-use Rattle.claims.specs.Rules.{Rules, readable, is_party, refusal, added}
+use Rattle.claims.specs.Rules.{Rules, Laws, readable, is_party, refusal, added}
 use Rattle.claims.specs.Units.{units_of}
 use Rattle.claims.proofs.Books.{rising-merge, length-out, length-insert, length-merge, kept_out, out_absent, kept-merge-first, kept-merge-second, kept-insert_in, kept-insert-out, find-merge_none, every-insert, apart-insert-first, apart-insert-second, merge-insert-first, merge-insert-second, merge-without-first, merge-without-second, merge-out-first, merge-out-second, find-merge-first, find-apart, some_is, none_is, every-merge, every_from}
 use Rattle.resource.specs.Calls.{Placed, Lifted, Drawn}
 use Rattle.resource.specs.Draws.{drawn}
 use Rattle.resource.specs.declared.Resource.{Ghosts}
 use Rattle.compound.specs.declared.bank.Bank.{Bank}
-use Rattle.compound.specs.Joined.{low, high, joined, Sides, BankSound}
-use Rattle.compound.specs.Openings.{Standing}
+use Rattle.compound.specs.Joined.{low, high, joined, Sides, BankSound, bank_rules, bank_book}
+use Rattle.compound.specs.Openings.{Standing, opened_stands}
 use Rattle.compound.specs.Sums.{units-merge, units_agree, units-few}
 use Rattle.compound.specs.Wholes.{drawn_like, placed-whole, lifted-whole, drawn-whole}
 use Rattle.compound.specs.Joins.{joined-carries, joined_laws}
@@ -196,3 +196,7 @@ has e f = sym (e ∙ ap is_some f)
 -- a sound bank that is open
 pub joint : {F S : Type 0} (f : Ghosts F) (t : Ghosts S) → ((x : F) → f.sound x → Standing (f.rules x) (f.book x)) → ((x : S) → t.sound x → Standing (t.rules x) (t.book x)) → (v : Bank F S) → BankSound f t v → v.«open» ≡ true → Joint v.split (f.rules v.first) (t.rules v.second) (f.book v.first) (t.book v.second)
 joint f t l r v h is = record { left = l v.first h.0; right = r v.second h.1; sides = h.2 is }
+
+-- what holds of a bank between calls, from what holds of its sides
+pub bank_stands : {F S : Type 0} (f : Ghosts F) (t : Ghosts S) (v : Bank F S) → Laws (joined v.split (f.rules v.first) (t.rules v.second)) → ((x : F) → f.sound x → Standing (f.rules x) (f.book x)) → ((x : S) → t.sound x → Standing (t.rules x) (t.book x)) → BankSound f t v → Standing (bank_rules f t v) (bank_book f t v)
+bank_stands f t v l p q h = opened_stands v.«open» _ _ l (λ is. joint_stands (joint f t p q v h is))
