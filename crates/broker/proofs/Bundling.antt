@@ -1,16 +1,14 @@
 -- What the loop that places the claims of a promise keeps.
-use Rattle.std.proofs.Common.{◌≡◌, ℕ, zero, suc, ◌+◌, ◌*◌, ◌%◌, ◌<◌, ◌≤◌, Bool, true, false, cond, ◌&&◌, eqb, ltb, List, [], ◌∷◌, ◌++◌, length, get_or, take, drop, is_some, Some, None, Ok, Err, Option, Result, sym, refl, ap, ◌∙◌, subst, add-zero, arith}
-use Rattle.std.proofs.lemmas.List.{drop_more, drop_all, take_more, take_all, append_assoc, append-nil, length-take-le}
-use Rattle.std.proofs.lemmas.Bool.{cond-true, cond-false, eq-eqb, ne_eqb, le-ltb, and_from}
-use Rattle.std.proofs.lemmas.Bool.Decides.{nat_tests}
+use Rattle.std.proofs.Common.{◌≡◌, ℕ, zero, suc, ◌+◌, ◌*◌, ◌%◌, ◌<◌, ◌≤◌, Bool, true, false, cond, ◌&&◌, List, [], ◌∷◌, ◌++◌, length, get_or, take, drop, is_some, Some, None, Ok, Err, Option, Result, sym, refl, ap, ◌∙◌, subst, add-zero, arith}
+use Rattle.std.proofs.lemmas.List.{drop_more, drop_all, take_more, append_assoc, append-nil, length-take-le}
+use Rattle.std.proofs.lemmas.Bool.{cond-true, cond-false, and_from}
 use Rattle.claims.specs.declared.Claim.{Claim}
 use Rattle.claims.specs.declared.ClaimKey.{ClaimKey}
 use Rattle.claims.specs.declared.Cause.{Cause}
 use Rattle.claims.specs.declared.Fault.{Fault}
 use Rattle.claims.specs.declared.Demand.{Demand}
 use Rattle.claims.specs.declared.ClaimState.TheVariants.{Waiting}
-use Rattle.claims.specs.declared.Cause.TheVariants.{KeyTaken, Unreadable}
-use Rattle.claims.specs.Book.{Book, key_of, find, insert, without}
+use Rattle.claims.specs.Book.{Book, key_of, find, insert}
 use Rattle.claims.specs.Rules.{Rules, refusal, answered, added}
 use Rattle.resource.specs.Calls.{Placed}
 use Rattle.machine.specs.Machine.{claims_from, bundle, keys_from, add_all, lift_all, short_at, is_party, unread_at}

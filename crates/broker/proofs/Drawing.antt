@@ -1,5 +1,5 @@
 -- What the loop that draws the claims of a promise keeps.
-use Rattle.std.proofs.Common.{◌≡◌, ℕ, ◌+◌, ◌-◌, ◌*◌, ◌<◌, ◌≤◌, List, [], ◌∷◌, ◌++◌, map, length, get_or, take, drop, set, replicate, Some, None, Ok, Err, Option, Result, sym, refl, ap, ◌∙◌, subst, add-zero, arith}
+use Rattle.std.proofs.Common.{◌≡◌, ℕ, ◌+◌, ◌<◌, ◌≤◌, List, [], ◌∷◌, ◌++◌, map, length, get_or, take, drop, set, replicate, Some, None, Ok, Err, Option, Result, sym, ap, ◌∙◌, subst, add-zero, arith}
 use Rattle.std.proofs.lemmas.List.{drop_more, drop_all, drop-set-lt, drop-replicate, take_more_set, map_push, append_assoc, append-nil}
 use Rattle.claims.specs.declared.Cause.{Cause}
 use Rattle.claims.specs.declared.Cause.TheVariants.{AlreadyOut}
@@ -17,7 +17,7 @@ use Rattle.resource.specs.Draws.{drawn}
 use Rattle.machine.specs.Entries.{Waits}
 use Rattle.machine.specs.Limits.{most_demands}
 use Rattle.machine.specs.Machine.{keys_from, draws, out_all}
-use Rattle.machine.proofs.Bundles.{waits_out, length-draws}
+use Rattle.machine.proofs.Bundles.{waits_out}
 use Rattle.broker.specs.Bundles.{ZerosBehind}
 use Rattle.broker.specs.Calls.{first_items}
 

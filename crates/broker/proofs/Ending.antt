@@ -1,7 +1,7 @@
 -- The calls for one promise, as the machine has them.
-use Rattle.std.proofs.Common.{◌≡◌, ℕ, Bool, true, false, not, List, [], ◌∷◌, is_some, Some, None, Option, sym, refl, ap, ◌∙◌}
+use Rattle.std.proofs.Common.{◌≡◌, ℕ, Bool, true, false, not, [], ◌∷◌, is_some, Some, None, Option, refl, ap}
 use Rattle.machine.specs.declared.Event.{Event}
-use Rattle.machine.specs.declared.Event.TheVariants.{Take, Release, GiveBack, Lapse}
+use Rattle.machine.specs.declared.Event.TheVariants.{Take, Release, GiveBack}
 use Rattle.machine.specs.declared.Refusal.TheVariants.{NotAParty, NotLive, NotYours, WrongState}
 use Rattle.machine.specs.declared.Slot.{Slot}
 use Rattle.machine.specs.declared.Slot.TheVariants.{Promised, Taken}

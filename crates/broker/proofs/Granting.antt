@@ -1,13 +1,13 @@
 -- What the questions of a draft come to.
-use Rattle.std.proofs.Common.{◌≡◌, ℕ, ◌+◌, ◌*◌, ◌<◌, ◌≤◌, Bool, true, false, cond, eqb, ltb, List, [], ◌∷◌, ◌++◌, length, is_some, Some, None, Ok, Err, Option, Result, sym, refl, ap, ◌∙◌, subst, arith}
+use Rattle.std.proofs.Common.{◌≡◌, ℕ, ◌+◌, ◌<◌, ◌≤◌, Bool, true, false, cond, eqb, ltb, List, [], ◌∷◌, ◌++◌, length, is_some, Some, None, Ok, Err, Option, sym, refl, ap, ◌∙◌, subst, arith}
 use Rattle.std.proofs.lemmas.Bool.{cond-true, cond-false, lt-ltb, le-ltb, eq-eqb}
 use Rattle.claims.specs.declared.Demand.{Demand}
 use Rattle.claims.specs.declared.Fault.{Fault}
 use Rattle.claims.specs.Book.{Book}
 use Rattle.claims.specs.Rules.{Rules}
 use Rattle.machine.specs.declared.Refusal.{Refusal}
-use Rattle.machine.specs.declared.Refusal.TheVariants.{NotAParty, DraftSize, MinutesOutside, Unreadable, TooManyPromises, NumbersSpent, NotCarried}
-use Rattle.machine.specs.Machine.{State, Promise, Answer, Call, first_missed, is_party, fits_draft, fits_minutes, unread_at, short_at, bundle, add_all, after, carried_all, not_carried, shortage, settle, made, next_or_zero, ask_refusal, at_minute, step}
+use Rattle.machine.specs.declared.Refusal.TheVariants.{NotAParty, DraftSize, MinutesOutside, Unreadable, TooManyPromises, NumbersSpent}
+use Rattle.machine.specs.Machine.{State, Promise, Answer, first_missed, is_party, fits_draft, fits_minutes, unread_at, short_at, bundle, add_all, after, carried_all, not_carried, shortage, settle, made, next_or_zero, ask_refusal, at_minute, step}
 use Rattle.machine.specs.Machine.Answer.{granted, refused}
 use Rattle.machine.specs.Machine.Call.{ask}
 use Rattle.machine.specs.Entries.{Consistent}

@@ -1,12 +1,12 @@
 -- What one turn of the loop over the live promises keeps.
-use Rattle.std.proofs.Common.{◌≡◌, ℕ, suc, ◌+◌, ◌*◌, ◌<◌, ◌≤◌, Bool, true, false, cond, List, [], ◌∷◌, ◌++◌, map, length, get_or, take, drop, sym, refl, ap, ◌∙◌, add-one, arith}
-use Rattle.std.proofs.lemmas.List.{drop_more, drop_all, take_all, map-append, append_assoc, append-nil, map_more, drop_at, take_at, length-take-le, get_or_read}
+use Rattle.std.proofs.Common.{◌≡◌, ℕ, suc, ◌+◌, ◌<◌, ◌≤◌, true, false, cond, List, [], ◌∷◌, ◌++◌, length, get_or, take, drop, sym, ap, ◌∙◌, add-one, arith}
+use Rattle.std.proofs.lemmas.List.{drop_more, drop_all, take_all, append_assoc, append-nil, map_more, drop_at, take_at, length-take-le}
 use Rattle.std.proofs.lemmas.Bool.{cond-true, cond-false}
 use Rattle.std.specs.List.{remove}
 use Rattle.claims.specs.Book.{Book}
 use Rattle.broker.specs.declared.held.Promise.{Promise as Held}
 use Rattle.broker.specs.View.{promise_view, live_view}
-use Rattle.machine.specs.Machine.{State, Promise, lapsed, standing, kept, keys_of, lift_all}
+use Rattle.machine.specs.Machine.{lapsed, standing, kept, keys_of, lift_all}
 
 module _ (clock : ℕ) (xs : List Held) (i : ℕ) (x : Held) (h : i < length xs) (e : x ≡ get_or xs i x) where
   -- what is left, by the promise that stands first in it

@@ -1,5 +1,5 @@
 -- The questions to an ask in two parts: those on the party, the draft and the minutes, and those on promises, numbers and goods.
-use Rattle.std.specs.Prelude.{◌≡◌, ℕ, ◌<◌, ◌≤◌, Bool, true, false, List, [], ◌∷◌, length, is_some, Some, None, Ok, Err, Option, Result, ◌==◌, nat_lt}
+use Rattle.std.specs.Prelude.{◌≡◌, ℕ, ◌<◌, ◌≤◌, true, List, [], ◌∷◌, length, is_some, Some, None, Ok, Err, Option, Result, ◌==◌, nat_lt}
 use Rattle.claims.specs.declared.Demand.{Demand}
 use Rattle.claims.specs.Rules.{Rules}
 use Rattle.machine.specs.declared.Refusal.{Refusal}

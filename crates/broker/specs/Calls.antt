@@ -3,7 +3,6 @@ use Rattle.std.specs.Prelude.{ℕ, List, map, take, Ok, Err, Result}
 use Rattle.claims.specs.declared.ItemNumber.{ItemNumber}
 use Rattle.claims.specs.declared.PromiseNumber.{PromiseNumber}
 use Rattle.machine.specs.declared.Refusal.{Refusal}
-use Rattle.machine.specs.declared.Slot.{Slot}
 use Rattle.machine.specs.Machine.{Call as MachineCall, Answer as MachineAnswer}
 use Rattle.machine.specs.Machine.Call.{ask, take as take_up, release, give_back, question}
 use Rattle.machine.specs.Machine.Answer.{granted, handed, done, told, refused}

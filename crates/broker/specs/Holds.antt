@@ -1,5 +1,5 @@
 -- Where a promise stands among the live ones, and whether a call for it is refused.
-use Rattle.std.specs.Prelude.{◌≡◌, ℕ, ◌<◌, Bool, true, false, List, [], ◌∷◌, length, is_some, Some, None, Ok, Err, Option, Result, slice_index_or, slice_set}
+use Rattle.std.specs.Prelude.{◌≡◌, ℕ, ◌<◌, Bool, true, List, [], ◌∷◌, length, is_some, Some, None, Ok, Err, Option, Result, slice_index_or, slice_set}
 use Rattle.std.specs.List.{remove}
 use Rattle.machine.specs.declared.Event.{Event}
 use Rattle.machine.specs.declared.Refusal.{Refusal}

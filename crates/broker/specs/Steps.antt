@@ -15,35 +15,35 @@ use Rattle.broker.specs.Holds.{missed}
 use Rattle.broker.specs.View.{view}
 
 -- what holds of a broker between calls: making gives it over any sound resource, and every call keeps it
-pub record Sound {X : Type 0} (m : Ghosts X) (b : Broker X) : Type 0 where
+pub record Sound {X : Type 0} (m : Ghosts X) (b : Broker X m) : Type 0 where
   pub goods : m.sound b.resource
   pub consistent : Consistent (view m b)
 
 -- a broker as it is made
-pub record Starts {X : Type 0} (m : Ghosts X) (first : ℕ) (x : X) (b : Broker X) : Type 0 where
+pub record Starts {X : Type 0} (m : Ghosts X) (first : ℕ) (x : X) (b : Broker X m) : Type 0 where
   pub goods : b.resource ≡ x
   pub state : view m b ≡ start first (m.book x)
   pub sound : Sound m b
 
 -- over a sound resource a broker is made, or the resource is handed back
-abbrev pub MadeOver : {X : Type 0} → Ghosts X → ℕ → X → Result (Broker X) (AllocError × X) → Type 0
+abbrev pub MadeOver : {X : Type 0} → (m : Ghosts X) → ℕ → X → Result (Broker X m) (AllocError × X) → Type 0
 MadeOver m first x (Ok b) = m.sound x → Starts m first x b
 MadeOver m first x (Err e) = e.1 ≡ x
 
 -- a minute passes: the clock moves on and promises lapse
-pub record Passes {X : Type 0} (m : Ghosts X) (b : Broker X) (minute : ℕ) (b' : Broker X) : Type 0 where
+pub record Passes {X : Type 0} (m : Ghosts X) (b : Broker X m) (minute : ℕ) (b' : Broker X m) : Type 0 where
   pub kept : Sound m b → Sound m b'
   pub same : Sound m b → m.rules b'.resource ≡ m.rules b.resource
   pub after : Sound m b → view m b' ≡ at_minute minute (view m b)
 
 -- a call: answer and next state are those of the machine
-pub record Steps {X : Type 0} (m : Ghosts X) (b : Broker X) (call : Call) (answer : Answer) (b' : Broker X) : Type 0 where
+pub record Steps {X : Type 0} (m : Ghosts X) (b : Broker X m) (call : Call) (answer : Answer) (b' : Broker X m) : Type 0 where
   pub kept : Sound m b → Sound m b'
   pub same : Sound m b → m.rules b'.resource ≡ m.rules b.resource
   pub after : Sound m b → ◌≡◌ {A = State × Answer} (view m b', answer) (step (m.rules b.resource) (view m b) call)
 
 -- the promise ends that an event fits, or the call is refused
-pub record Ends {X : Type 0} (m : Ghosts X) (b : Broker X) (minute party number : ℕ) (event : Event) (answer : Answer) (b' : Broker X) : Type 0 where
+pub record Ends {X : Type 0} (m : Ghosts X) (b : Broker X m) (minute party number : ℕ) (event : Event) (answer : Answer) (b' : Broker X m) : Type 0 where
   pub kept : Sound m b → Sound m b'
   pub same : Sound m b → m.rules b'.resource ≡ m.rules b.resource
   pub after : Sound m b → ◌≡◌ {A = State × Answer} (view m b', answer)

@@ -18,5 +18,5 @@ live_view hs = map promise_view hs
 abbrev pub state : ℕ → Option PromiseNumber → List Held → Book → State
 state clock next live book = record { clock = clock; next = option_map (λ n. n.0) next; live = live_view live; book = book }
 
-abbrev pub view : {X : Type 0} → Ghosts X → Broker X → State
+abbrev pub view : {X : Type 0} → (m : Ghosts X) → Broker X m → State
 view m b = state b.clock b.next (vec_items b.live) (m.book b.resource)

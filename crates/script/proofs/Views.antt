@@ -59,21 +59,21 @@ module _ {X : Type 0} (m : Ghosts X) where
   said-replied n (Ok answer) = refl
   said-replied n (Err refusal) = refl
 
-  pub line_said : (b b' : Broker X) (n : ℕ) (line : List ℕ) (answer : Result Answer ScriptFault) → AnswersLine m b n line answer b' → Line (by_broker m) n b line (said answer) b'
+  pub line_said : (b b' : Broker X m) (n : ℕ) (line : List ℕ) (answer : Result Answer ScriptFault) → AnswersLine m b n line answer b' → Line (by_broker m) n b line (said answer) b'
   line_said b b' n line answer (Ok call, reads, (reply, steps, is)) = (Ok call, reads, (answer_of reply, steps, ap said is ∙ said-replied n reply))
   line_said b b' n line answer (Err unread, reads, (is, same)) = (Err unread, reads, (ap said is, same))
 
   -- sound, and over these rules
-  abbrev Over : Rules → Broker X → Type 0
+  abbrev Over : Rules → Broker X m → Type 0
   Over rules b = Sound m b × (m.rules b.resource ≡ rules)
 
-  each_call : (rules : Rules) (b : Broker X) (c : Call) (w : List ℕ) (b' : Broker X) → Over rules b → by_broker m b c w b' → Over rules b' × by_machine rules (view m b) c w (view m b')
+  each_call : (rules : Rules) (b : Broker X m) (c : Call) (w : List ℕ) (b' : Broker X m) → Over rules b → by_broker m b c w b' → Over rules b' × by_machine rules (view m b) c w (view m b')
   each_call rules b c w b' (ok, same) (answer, steps, is) = (
     (steps.kept ok, steps.same ok ∙ same),
     (answer, subst (λ r. ◌≡◌ {A = State × MachineAnswer} (view m b', answer) (step r (view m b) (call_of c))) same (steps.after ok), is),
   )
 
-  pub runs : {T E : Type 0} (r : Result T E) (b b' : Broker X) (script old new rows : List ℕ) → new ≡ old ++ rows → Settled (by_broker m) r b script rows b' → Runs m b script old r new b'
+  pub runs : {T E : Type 0} (r : Result T E) (b b' : Broker X m) (script old new rows : List ℕ) → new ≡ old ++ rows → Settled (by_broker m) r b script rows b' → Runs m b script old r new b'
   runs r b b' script old new rows added told =
       let rules = m.rules b.resource in record {
         rows = rows;
@@ -84,6 +84,6 @@ module _ {X : Type 0} (m : Ghosts X) where
         same = λ ok. (sound-after (by_broker m) (by_machine rules) (view m) (Over rules) (each_call rules) r b b' script rows (ok, refl) told).1;
       }
 
-  pub runs_too_long : {T E : Type 0} (r : Result T E) (b : Broker X) (script old new : List ℕ) → most_bytes < length script → new ≡ cond (is_ok r) (old ++ row_bytes 0 (said (Err TooLong))) old → Runs m b script old r new b
+  pub runs_too_long : {T E : Type 0} (r : Result T E) (b : Broker X m) (script old new : List ℕ) → most_bytes < length script → new ≡ cond (is_ok r) (old ++ row_bytes 0 (said (Err TooLong))) old → Runs m b script old r new b
   runs_too_long (Ok x) b script old new long is = runs (Ok x) b b script old new _ is (record { long = λ _. (refl, refl); short = λ l. absurd (omega arith) })
   runs_too_long (Err x) b script old new long is = runs (Err x) b b script old new [] (is ∙ sym (append-nil old)) (record { long = λ _. (refl, refl); short = λ l. absurd (omega arith) })

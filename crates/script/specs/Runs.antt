@@ -23,17 +23,17 @@ replied n (Ok answer) = Ok answer
 replied n (Err refusal) = Err (Refused n refusal)
 
 -- line n is read and its call dealt with, or it is not read and the broker stands
-abbrev pub AnswersLine : {X : Type 0} → Ghosts X → Broker X → ℕ → List ℕ → Result Answer ScriptFault → Broker X → Type 0
+abbrev pub AnswersLine : {X : Type 0} → (m : Ghosts X) → Broker X m → ℕ → List ℕ → Result Answer ScriptFault → Broker X m → Type 0
 AnswersLine m b n line answer b' = (r : Result Call UnreadKind) × ReadsAs line r × MatchResult r (λ call. (reply : Result Answer Refusal) × Steps m b (call_of call) (answer_of reply) b' × (answer ≡ replied n reply)) (λ unread. (answer ≡ Err (Unread n unread)) × (b' ≡ b))
 
 -- the row of a line is added to what was written; where memory is short, the line is dealt with and no row is added
-pub record RowOfLine {X : Type 0} (m : Ghosts X) {T E : Type 0} (b : Broker X) (n : ℕ) (line old : List ℕ) (r : Result T E) (new : List ℕ) (b' : Broker X) : Type 0 where
+pub record RowOfLine {X : Type 0} (m : Ghosts X) {T E : Type 0} (b : Broker X m) (n : ℕ) (line old : List ℕ) (r : Result T E) (new : List ℕ) (b' : Broker X m) : Type 0 where
   pub answer : Result Answer ScriptFault
   pub told : AnswersLine m b n line answer b'
   pub added : new ≡ cond (is_ok r) (old ++ row_bytes n (said answer)) old
 
 -- a broker deals with a call: the words are those for the answer of its step
-abbrev pub by_broker : {X : Type 0} → Ghosts X → Broker X → Call → List ℕ → Broker X → Type 0
+abbrev pub by_broker : {X : Type 0} → (m : Ghosts X) → Broker X m → Call → List ℕ → Broker X m → Type 0
 by_broker m b call words b' = (answer : MachineAnswer) × Steps m b (call_of call) answer b' × (words ≡ worded answer)
 
 -- the machine deals with a call, under these rules
@@ -41,7 +41,7 @@ abbrev pub by_machine : Rules → State → Call → List ℕ → State → Type
 by_machine rules s call words t = (answer : MachineAnswer) × (◌≡◌ {A = State × MachineAnswer} (t, answer) (step rules s (call_of call))) × (words ≡ worded answer)
 
 -- a script: the rows are added to what was written, and those of a sound broker are the machine's
-pub record Runs {X : Type 0} (m : Ghosts X) {T E : Type 0} (b : Broker X) (script old : List ℕ) (r : Result T E) (new : List ℕ) (b' : Broker X) : Type 0 where
+pub record Runs {X : Type 0} (m : Ghosts X) {T E : Type 0} (b : Broker X m) (script old : List ℕ) (r : Result T E) (new : List ℕ) (b' : Broker X m) : Type 0 where
   pub rows : List ℕ
   pub added : new ≡ old ++ rows
   pub told : Settled (by_broker m) r b script rows b'

@@ -1,4 +1,4 @@
-use Rattle.std.proofs.Common.{◌≡◌, sym, refl, ap, ◌∙◌, arith}
+use Rattle.std.proofs.Common.{sym, ◌∙◌, arith}
 use Rattle.claims.specs.declared.Demand.{Demand}
 use Rattle.broker.proofs.Reading.{unread_more, unread_here, unread_all}
 use Rattle.broker.proofs.asking.unread.Goals as goal

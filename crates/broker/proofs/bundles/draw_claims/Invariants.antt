@@ -1,4 +1,4 @@
-use Rattle.std.proofs.Common.{◌≡◌, ◌*◌, ◌≤◌, length}
+use Rattle.std.proofs.Common.{◌≡◌, length}
 use Rattle.machine.specs.Entries.{Waits}
 use Rattle.machine.specs.Limits.{most_demands}
 use Rattle.broker.specs.Drafts.{demands_of}

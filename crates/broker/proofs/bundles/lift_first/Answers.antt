@@ -1,4 +1,4 @@
-use Rattle.std.proofs.Common.{◌≡◌, ◌*◌, sym, refl, ◌∙◌, add-zero, arith}
+use Rattle.std.proofs.Common.{◌*◌, sym, refl, ◌∙◌, add-zero, arith}
 use Rattle.machine.specs.Limits.{most_demands}
 use Rattle.broker.proofs.Lifts.{lift_turn, lift_end}
 use Rattle.broker.proofs.bundles.lift_first.Goals as goal

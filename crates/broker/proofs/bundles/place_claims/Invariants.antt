@@ -1,5 +1,4 @@
-use Rattle.std.proofs.Common.{◌≡◌, ◌*◌}
-use Rattle.machine.specs.Limits.{most_demands}
+use Rattle.std.proofs.Common.{◌≡◌}
 use Rattle.broker.specs.Bundles.{Ready}
 use Rattle.broker.proofs.Bundling.{Placing}
 use Rattle.broker.proofs.bundles.place_claims.Given as goal

@@ -1,4 +1,4 @@
-use Rattle.std.proofs.Common.{◌≡◌, ◌<◌, ◌≤◌, length, drop, vec_items, sym, refl, ap, ◌∙◌, arith, rules}
+use Rattle.std.proofs.Common.{◌<◌, ◌≤◌, length, drop, vec_items, sym, ap, ◌∙◌, arith, rules}
 use Rattle.broker.specs.View.{promise_view, live_view}
 use Rattle.machine.specs.Machine.{kept, lapsed}
 use Rattle.std.proofs.lemmas.List.{get_or_default}

@@ -1,4 +1,4 @@
-use Rattle.std.proofs.Common.{◌≡◌, ◌<◌, length, set, vec_items, refl, ap, ◌∙◌, rules}
+use Rattle.std.proofs.Common.{◌<◌, length, set, vec_items, ap, ◌∙◌, rules}
 use Rattle.std.proofs.lemmas.List.{map-set, get_or_default}
 use Rattle.broker.specs.Holds.{as_taken}
 use Rattle.broker.specs.View.{promise_view, live_view}

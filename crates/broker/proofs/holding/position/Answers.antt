@@ -1,4 +1,4 @@
-use Rattle.std.proofs.Common.{◌≡◌, ◌<◌, ◌≤◌, length, get_or, vec_items, sym, ap, ◌∙◌, rules}
+use Rattle.std.proofs.Common.{get_or, vec_items, ap, ◌∙◌}
 use Rattle.broker.proofs.Places.{seeks_more, seeks_stands, seeks_none}
 use Rattle.broker.proofs.holding.position.Goals as goal
 

@@ -1,8 +1,7 @@
 use Rattle.std.proofs.Common.{◌≡◌, vec_items, sym, subst, rules}
 use Rattle.machine.specs.Entries.{Consistent}
-use Rattle.machine.specs.Machine.{State, at_minute}
+use Rattle.machine.specs.Machine.{at_minute}
 use Rattle.machine.proofs.Keeping.{consistent_minute}
-use Rattle.broker.specs.Steps.{Sound}
 use Rattle.broker.specs.View.{state, view}
 use Rattle.broker.proofs.desk.Broker.at_minute.Goals as goal
 

@@ -1,15 +1,13 @@
-use Rattle.std.proofs.Common.{◌≡◌, List, Some, Ok, Err, vec_items, Option, Result, sym, refl, ap, ◌∙◌, subst}
-use Rattle.std.proofs.lemmas.List.{get_or_default}
+use Rattle.std.proofs.Common.{◌≡◌, List, Some, Err, vec_items, Result, sym, ap, ◌∙◌, subst}
 use Rattle.std.proofs.lemmas.Result.{err_from_is_err_and}
 use Rattle.claims.specs.Book.{Book}
 use Rattle.machine.specs.declared.Refusal.{Refusal}
 use Rattle.machine.specs.Entries.{Consistent}
 use Rattle.machine.specs.Machine.{State, Promise, Answer, keys_held, lift_all, end_promise, settle}
-use Rattle.machine.specs.Machine.Answer.{done, refused}
+use Rattle.machine.specs.Machine.Answer.{done}
 use Rattle.machine.proofs.Keeping.{consistent_end}
 use Rattle.broker.specs.Calls.{done_or}
 use Rattle.broker.specs.Holds.{missed}
-use Rattle.broker.specs.Steps.{Sound}
 use Rattle.broker.specs.View.{view, live_view, promise_view}
 use Rattle.broker.proofs.desk.Broker.end.Goals as goal
 

@@ -1,4 +1,4 @@
-use Rattle.std.proofs.Common.{◌≡◌, ap, ◌∙◌}
+use Rattle.std.proofs.Common.{ap, ◌∙◌}
 use Rattle.machine.specs.Machine.{is_taken, at_minute, end_promise, settle}
 use Rattle.machine.specs.Machine.Answer.{done}
 use Rattle.machine.specs.declared.Event.TheVariants.{GiveBack}

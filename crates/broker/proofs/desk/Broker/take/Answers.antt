@@ -1,4 +1,4 @@
-use Rattle.std.proofs.Common.{◌≡◌, ℕ, List, length, Some, None, Ok, Err, vec_items, Result, sym, refl, ap, ◌∙◌, subst, arith}
+use Rattle.std.proofs.Common.{◌≡◌, ℕ, List, length, Some, Ok, Err, vec_items, Result, sym, refl, ap, ◌∙◌, subst, arith}
 use Rattle.std.proofs.lemmas.Result.{err_from_is_err_and}
 use Rattle.claims.specs.declared.Fault.{Fault}
 use Rattle.claims.specs.declared.ItemNumber.{ItemNumber}
@@ -10,7 +10,6 @@ use Rattle.machine.specs.Machine.Call.{take}
 use Rattle.machine.specs.Machine.Answer.{handed}
 use Rattle.machine.proofs.Keeping.{step_keeps}
 use Rattle.broker.specs.Calls.{handed_or, first_items}
-use Rattle.broker.specs.Drafts.{demands_of}
 use Rattle.broker.specs.Steps.{Sound, UnitsLeft}
 use Rattle.broker.specs.View.{view, live_view, promise_view}
 use Rattle.broker.proofs.Ending.{fits-take, missed_is}
