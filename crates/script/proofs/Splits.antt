@@ -2,7 +2,7 @@
 use Rattle.std.proofs.Common.{◌≡◌, ℕ, suc, ◌+◌, ◌-◌, ◌^◌, ◌<◌, ◌≤◌, List, [], ◌∷◌, ◌++◌, length, get_or, take, drop, set, decimal, sym, refl, ap, ◌∙◌, append_assoc, append-nil, add-zero, arith, length-drop, length-set, take-append-drop, length-take-le, get_or-drop, get_or-take}
 use Rattle.std.specs.List.{between}
 use Rattle.std.proofs.lemmas.List.{drop_more, drop_all, take_more_set, length_push, drop-drop}
-use Rattle.script.specs.Spaced.{field, spaced, Small, Holds}
+use Rattle.script.specs.Spaced.{spaced, Small, Holds}
 use Rattle.script.specs.Ends.{Ended}
 use Rattle.script.specs.Limits.{most_numbers}
 use Rattle.script.proofs.Numbers.{Unwritten, decimal_at}

@@ -102,12 +102,13 @@ pub fn push_row(
 ) -> Result<(), AllocError>
     ensures { string_bytes out.new ≡ (if is_ok result then string_bytes out.old ++ row_bytes n (said answer.now) else string_bytes out.old) }
 {
+    let alloc = *out.allocator();
     let row = match answer {
         Ok(answer) => {
             let told = Told(*answer);
-            format!(in out.allocator(); "{n}{told}\n")?
+            format!(in alloc; "{n}{told}\n")?
         }
-        Err(fault) => format!(in out.allocator(); "{n} no {fault}\n")?,
+        Err(fault) => format!(in alloc; "{n} no {fault}\n")?,
     };
     out.push_str(row.as_str())
 }

@@ -7,7 +7,7 @@ use Rattle.script.proofs.reader.read_line.Goals as goal
 
 pub returns-in_err-fields : goal.returns-in_err-fields
 returns-in_err-fields c =
-    let is = MatchOption-at_some _ _ _ c.in_ok-verb.ensures.ok-part c.from_letter.ensures in
+    let is = MatchOption-at_some _ _ _ c.in_ok-verb.ensures.ok_part c.from_letter.ensures in
     let cut = after-letter c.args.line.now c.in_ok-verb.verb c.from.result (search rules) is (search rules) in
     let none = or_none c.read_fields.result _ _ (sym c.ok_or-2.ensures.value ∙ c.in_err-fields.was) in
     let p = err_from_is_err_and c.from_residual-in_err-fields.result c.from_residual-in_err-fields.ensures.1 in
@@ -15,19 +15,19 @@ returns-in_err-fields c =
 
 pub returns-in_err-numbers : goal.returns-in_err-numbers
 returns-in_err-numbers c =
-    let is = MatchOption-at_some _ _ _ c.in_ok-verb.ensures.ok-part c.from_letter.ensures in
+    let is = MatchOption-at_some _ _ _ c.in_ok-verb.ensures.ok_part c.from_letter.ensures in
     let cut = after-letter c.args.line.now c.in_ok-verb.verb c.from.result (search rules) is (search rules) in
     let f = c.in_ok-fields.fields in
-    let has = MatchOption-at_some _ _ f c.in_ok-fields.ensures.ok-part c.read_fields.ensures in
+    let has = MatchOption-at_some _ _ f c.in_ok-fields.ensures.ok_part c.read_fields.ensures in
     let none = or_none c.as_slice.result _ _ (sym c.ok_or-3.ensures.value ∙ c.in_err-numbers.was) in
     let p = err_from_is_err_and c.from_residual-in_err-numbers.result c.from_residual-in_err-numbers.ensures.1 in
     rw (p.1, p.2, none.1) (too_many _ _ _ cut f.numbers f.count f.whole has (MatchOption-at_none _ _ none.0 c.as_slice.ensures))
 
 pub returns : goal.returns
 returns c =
-    let is = MatchOption-at_some _ _ _ c.in_ok-verb.ensures.ok-part c.from_letter.ensures in
+    let is = MatchOption-at_some _ _ _ c.in_ok-verb.ensures.ok_part c.from_letter.ensures in
     let cut = after-letter c.args.line.now c.in_ok-verb.verb c.from.result (search rules) is (search rules) in
     let f = c.in_ok-fields.fields in
-    let has = MatchOption-at_some _ _ f c.in_ok-fields.ensures.ok-part c.read_fields.ensures in
-    let kept = MatchOption-at_some _ _ _ c.in_ok-numbers.ensures.ok-part c.as_slice.ensures in
+    let has = MatchOption-at_some _ _ f c.in_ok-fields.ensures.ok_part c.read_fields.ensures in
+    let kept = MatchOption-at_some _ _ _ c.in_ok-numbers.ensures.ok_part c.as_slice.ensures in
     rw c.ok_or-4.ensures.value (call_or_count _ _ _ cut f.numbers f.count f.whole has c.read_call.result _ kept.0 kept.1 c.read_call.ensures)

@@ -15,7 +15,7 @@ pub loop-i-preserved : goal.loop-i-preserved
 loop-i-preserved g c = λ plain.
     let u = c.args.self.now.0 in
     let old = c.loop-i.invariant plain in
-    let new = c.in_ok-write.ensures.shows old.plain refl in
+    let new = c.in_ok-write.ensures.writes old.plain refl in
     has_written_of_eq _ _ _ _ _ (unit_more u.items c.loop-i.i _ (omega (arith, u.whole, u.few))) (has_written_append _ _ _ _ _ _ old new)
 
 pub returns-clause-writes : goal.returns-clause-writes
