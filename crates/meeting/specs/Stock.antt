@@ -35,7 +35,7 @@ pub record Stocked (s : Goods) : Type 0 where
   pub unclaimed : goods.book s ≡ []
 
 -- the broker as it is made: sound, over these rules, at the machine's first state
-pub record Opens (b : Broker Goods) : Type 0 where
+pub record Opens (b : Broker Goods goods) : Type 0 where
   pub sound : Sound goods b
   pub ruled : goods.rules b.resource ≡ meeting_rules
   pub state : view goods b ≡ start 1 []

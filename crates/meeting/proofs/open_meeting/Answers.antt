@@ -1,4 +1,4 @@
-use Rattle.std.proofs.Common.{◌≡◌, ap, ◌∙◌}
+use Rattle.std.proofs.Common.{ap, ◌∙◌}
 use Rattle.claims.specs.Book.{Book}
 use Rattle.machine.specs.Machine.{start}
 use Rattle.meeting.specs.Stock.{goods}

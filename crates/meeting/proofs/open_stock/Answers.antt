@@ -5,7 +5,7 @@ use Rattle.claims.specs.Limits.{last_party}
 use Rattle.claims.specs.Rules.{Rules}
 use Rattle.goods.specs.NamedGoods.{named}
 use Rattle.goods.specs.Pooled.{pool}
-use Rattle.goods.specs.Views.{pool_rules, pool_book, named_book}
+use Rattle.goods.specs.Views.{pool_book, named_book}
 use Rattle.compound.specs.Joined.{joined}
 use Rattle.compound.specs.Limited.{limited}
 use Rattle.meeting.specs.Stock.{Stocked}
