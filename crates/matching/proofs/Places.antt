@@ -1,5 +1,5 @@
 -- The places of a list that has lost or gained one.
-use Rattle.std.proofs.Common.{◌≡◌, ℕ, zero, suc, ◌+◌, ◌<◌, ◌≤◌, ◌⊎◌, List, [], ◌∷◌, length, get_or, set, sym, refl, ap, inl, inr, ⊎_elim, arith}
+use Rattle.std.proofs.Common.{◌≡◌, ℕ, zero, suc, ◌+◌, ◌<◌, ◌≤◌, ◌⊎◌, List, [], ◌∷◌, length, get_or, set, refl, ap, inl, inr, ⊎_elim, arith}
 use Rattle.std.specs.List.{remove, insert, slice_get}
 
 -- where the place j of a list without its place i stood before

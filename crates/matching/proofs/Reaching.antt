@@ -1,9 +1,9 @@
 -- What the loops keep that go breadth first from a new claim.
-use Rattle.std.proofs.Common.{◌≡◌, ℕ, zero, suc, ◌+◌, ◌-◌, ◌<◌, ◌≤◌, Bool, true, ◌⊎◌, List, ◌∷◌, length, get_or, set, sym, refl, ap, ◌∙◌, subst, inl, inr, ⊎_elim, arith}
+use Rattle.std.proofs.Common.{◌≡◌, ℕ, zero, suc, ◌+◌, ◌-◌, ◌<◌, ◌≤◌, Bool, true, List, ◌∷◌, length, get_or, set, sym, refl, ap, ◌∙◌, subst, ⊎_elim, arith}
 use Rattle.std.proofs.lemmas.List.{get_or-set_same, get_or-set_other}
 use Rattle.std.proofs.lemmas.Bool.{cases_eq, cases_lt}
 use Rattle.matching.specs.Paths.{Allots, Blank, Path, Queued, Reached, Shortage, all_of}
-use Rattle.matching.proofs.Flipping.{queued_less, reached-apart, reached_less, set_case}
+use Rattle.matching.proofs.Flipping.{reached-apart, reached_less, set_case}
 use Rattle.matching.proofs.Pigeon.{pigeon}
 
 -- the first tail claims of q are reached, and for the first head of them no good is open; the marked goods are those that the others than x have

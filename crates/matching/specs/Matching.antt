@@ -1,5 +1,5 @@
 -- What a matching of claims to goods is, when claims are carried, and what admitting one more does.
-use Rattle.std.specs.Prelude.{◌≡◌, ℕ, zero, suc, ◌<◌, ◌≤◌, Bool, true, false, not, ◌&&◌, ◌||◌, List, [], ◌∷◌, length, Some, None, Decides, Option, ◌==◌, nat_le, nat_lt, slice_index}
+use Rattle.std.specs.Prelude.{◌≡◌, ℕ, zero, suc, ◌<◌, Bool, true, false, not, ◌&&◌, ◌||◌, List, [], ◌∷◌, length, Some, None, Decides, Option, ◌==◌, nat_le, nat_lt, slice_index}
 use Rattle.std.specs.List.{remove, slice_get}
 use Rattle.claims.specs.declared.Claim.{Claim}
 use Rattle.claims.specs.declared.ClaimState.{ClaimState}

@@ -1,5 +1,5 @@
 -- What each answer of the way from a new claim to a free good says.
-use Rattle.std.specs.Prelude.{ℕ, ◌≤◌, Bool, List}
+use Rattle.std.specs.Prelude.{ℕ, Bool, List}
 use Rattle.matching.specs.declared.reach.Way.{Way}
 use Rattle.matching.specs.declared.reach.Way.TheVariants.{Found, Short}
 use Rattle.matching.specs.Paths.{Path, Shortage}

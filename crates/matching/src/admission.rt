@@ -10,8 +10,8 @@ use claims::{Claim, MOST_CLAIMS};
 // Lets the claim at `new` have a good beside the others, which may get other goods for it; not if they cannot all be
 // carried.
 pub fn admit<G: Suits>(goods: &[G], claims: &[Claim], allotment: &mut [usize], new: usize) -> bool
-    ensures admits { Admits suiting goods.now claims.now new allotment.old result allotment.new }
-    ensures right { CoversRight suiting goods.now claims.now }
+    ensures admits { Admits G.Suits.suiting goods.now claims.now new allotment.old result allotment.new }
+    ensures right { CoversRight G.Suits.suiting goods.now claims.now }
 {
     let few = (goods.len() <= MOST_GOODS) & (claims.len() <= MOST_CLAIMS);
     if !(few & (allotment.len() == claims.len()) & (new < claims.len())) {

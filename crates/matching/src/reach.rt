@@ -40,7 +40,7 @@ fn next_open<G: Suits>(
 ) -> Option<usize>
     requires few { length goods.now ≤ most_goods }
     requires wide { length goods.now ≤ length sheet.now.0.now }
-    ensures { FirstFrom (is_open suiting goods.now sheet.now.0.now demand state) from result }
+    ensures { FirstFrom (is_open G.Suits.suiting goods.now sheet.now.0.now demand state) from result }
 {
     for good in from..goods.len() {
         let serves = waits_or_has(state, good) & goods[good].suits(demand);
@@ -83,7 +83,7 @@ pub(crate) fn reach<G: Suits>(
     requires lined { length claims.now ≤ length queue.old }
     requires led { length claims.now ≤ length back.old }
     requires clean { Blank marks.old }
-    ensures leads { Leads (fits suiting goods.now claims.now) (length claims.now) new allotment.now queue.new back.new result }
+    ensures leads { Leads (fits G.Suits.suiting goods.now claims.now) (length claims.now) new allotment.now queue.new back.new result }
     ensures wiped { Blank marks.new }
 {
     let holders = holders_of(allotment, new);

@@ -1,6 +1,5 @@
 -- The test is whether all is in bounds; the rest is what the path gives.
-use Rattle.std.proofs.Common.{◌≡◌, ℕ, ◌+◌, ◌<◌, ◌≤◌, Bool, true, false, List, length, sym, subst, arith}
-use Rattle.matching.specs.Matching.{in_bounds}
+use Rattle.std.proofs.Common.{ℕ, ◌+◌, Bool, List, length, sym, subst, arith}
 use Rattle.matching.specs.Paths.{Allots, Path, Queued, all_but, all_of, fits}
 use Rattle.matching.proofs.Admitting.{bounds_say, found, new_blank, not_found, out_of_bounds}
 use Rattle.matching.proofs.Covers.{covers_right}

@@ -1,5 +1,5 @@
 -- Each way of the loops is one of the lemmas on what they keep.
-use Rattle.std.proofs.Common.{◌≡◌, ℕ, ◌+◌, ◌-◌, ◌<◌, ◌≤◌, Bool, true, List, length, get_or, set, Some, None, Option, sym, refl, ap, ◌∙◌, subst, ⊎_elim, arith, length-set, rules}
+use Rattle.std.proofs.Common.{◌≡◌, ℕ, ◌<◌, ◌≤◌, Bool, true, List, length, get_or, set, None, Option, refl, ap, ◌∙◌, subst, ⊎_elim, arith, length-set, rules}
 use Rattle.std.specs.List.{slice_get}
 use Rattle.std.proofs.lemmas.List.{get_or-set_other}
 use Rattle.std.proofs.lemmas.Option.{slice_get-get_or}
@@ -8,7 +8,7 @@ use Rattle.claims.specs.declared.Claim.{Claim}
 use Rattle.claims.specs.declared.ClaimState.TheVariants.{Waiting}
 use Rattle.matching.specs.Paths.{Holder, fits}
 use Rattle.matching.proofs.Passing.{open_before, open_none, open_some}
-use Rattle.matching.proofs.Reaching.{Front, Looked, front_found, front_next, front_push, front_room, front_start, front_stuck, looked_push, queued_claim}
+use Rattle.matching.proofs.Reaching.{front_found, front_next, front_push, front_room, front_stuck, looked_push, queued_claim}
 use Rattle.matching.proofs.reach.reach.Given.{Over}
 use Rattle.matching.proofs.reach.reach.Goals as goal
 

@@ -1,4 +1,4 @@
-use Rattle.std.proofs.Common.{◌≡◌, ℕ, ◌<◌, ◌≤◌, ◌≢◌, length, ⊎_elim, arith, below_more}
+use Rattle.std.proofs.Common.{◌<◌, ◌≤◌, ◌≢◌, length, ⊎_elim, arith, below_more}
 use Rattle.std.proofs.lemmas.List.{get_or-set_same, get_or-set_other, get_or_past}
 use Rattle.std.proofs.lemmas.Bool.{cases_lt}
 use Rattle.matching.proofs.sheet.Sheet.drop.Goals as goal
