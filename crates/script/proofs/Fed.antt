@@ -1,7 +1,7 @@
 -- The lines of a script, put together again.
 use Rattle.std.proofs.Common.{◌≡◌, ℕ, ◌<◌, Bool, true, false, eqb, List, [], ◌∷◌, length, sym, refl, ap, ◌∙◌, arith, eqb-true}
 use borrow.Author.Tests.{eqb-false}
-use Rattle.std.specs.List.{AllByRecursion as All}
+use Rattle.std.specs.List.{AllByRecursion}
 use Rattle.script.specs.Lines.{before, lines_of, fed, closed, Whole, LinesAreTheScript}
 
 some_line : (t : Bool) (b : ℕ) (ls : List (List ℕ)) → 0 < length (before t b ls)
@@ -29,12 +29,12 @@ fed_lines [] = refl
 fed_lines (b ∷ []) = fed-last b
 fed_lines (b ∷ d ∷ bytes) = fed-step b (lines_of (d ∷ bytes)) (some_line (eqb d 10) d (lines_of bytes)) ∙ ap (λ l. b ∷ l) (fed_lines (d ∷ bytes))
 
-whole_before : (t : Bool) (b : ℕ) (ls : List (List ℕ)) → eqb b 10 ≡ t → All Whole ls → All Whole (before t b ls)
+whole_before : (t : Bool) (b : ℕ) (ls : List (List ℕ)) → eqb b 10 ≡ t → AllByRecursion Whole ls → AllByRecursion Whole (before t b ls)
 whole_before true b ls e h = (tt, h)
 whole_before false b [] e h = ((eqb-false b 10 e, tt), tt)
 whole_before false b (l ∷ ls) e h = ((eqb-false b 10 e, h.0), h.1)
 
-whole_lines : (bytes : List ℕ) → All Whole (lines_of bytes)
+whole_lines : (bytes : List ℕ) → AllByRecursion Whole (lines_of bytes)
 whole_lines [] = tt
 whole_lines (b ∷ bytes) = whole_before (eqb b 10) b (lines_of bytes) refl (whole_lines bytes)
 

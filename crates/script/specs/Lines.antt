@@ -1,6 +1,6 @@
 -- The lines of a script.
 use Rattle.std.specs.Prelude.{◌≡◌, ℕ, Bool, true, false, List, [], ◌∷◌, ◌++◌, ◌==◌, ◌≢◌}
-use Rattle.std.specs.List.{AllByRecursion as All}
+use Rattle.std.specs.List.{AllByRecursion}
 use Rattle.script.specs.Rows.{line_feed}
 
 -- a byte before the lines that follow it: a line feed ends a line, and any other byte begins the first line
@@ -26,8 +26,8 @@ closed (b ∷ d ∷ bytes) = b ∷ closed (d ∷ bytes)
 
 -- no line feed is within a line
 abbrev pub Whole : List ℕ → Type 0
-Whole line = All (λ b. b ≢ line_feed) line
+Whole line = AllByRecursion (λ b. b ≢ line_feed) line
 
 -- the lines are the script cut at its line feeds, and nowhere else
 abbrev pub LinesAreTheScript : Type 0
-LinesAreTheScript = (bytes : List ℕ) → (fed (lines_of bytes) ≡ closed bytes) × All Whole (lines_of bytes)
+LinesAreTheScript = (bytes : List ℕ) → (fed (lines_of bytes) ≡ closed bytes) × AllByRecursion Whole (lines_of bytes)
