@@ -1,17 +1,16 @@
 -- A claim that goes out with the least unit around which all are carried is drawn.
-use Rattle.std.proofs.Common.{◌≡◌, ℕ, suc, ◌+◌, ◌<◌, ◌≤◌, Bool, true, false, leb, List, length, Some, Ok, sym, refl, ap, ◌∙◌, subst, arith}
+use Rattle.std.proofs.Common.{◌≡◌, ℕ, suc, ◌<◌, ◌≤◌, Bool, true, false, leb, List, length, Some, Ok, sym, refl, ap, ◌∙◌, arith}
 use Rattle.std.proofs.lemmas.Bool.{and_right}
 use Rattle.claims.specs.declared.Claim.{Claim}
 use Rattle.claims.specs.declared.ClaimKey.{ClaimKey}
 use Rattle.claims.specs.declared.ClaimState.TheVariants.{Waiting}
 use Rattle.claims.specs.declared.Demand.{Demand}
-use Rattle.claims.specs.Book.{Book, Rising, every, find, key_of, out, sent}
+use Rattle.claims.specs.Book.{Book, Rising, every, find, out, sent}
 use Rattle.claims.specs.Limits.{last_unit, most_claims, most_goods}
 use Rattle.claims.specs.Rules.{readable}
 use Rattle.claims.proofs.Books.{length-out, rising-out}
 use Rattle.claims.proofs.Ranges.{find_key, find-out-same}
 use Rattle.resource.specs.Calls.{Drawn}
-use Rattle.resource.specs.Draws.{drawn}
 use Rattle.resource.proofs.Refusals.{goes-out, least_is}
 use Rattle.shelf.proofs.Every.{every-out}
 use Rattle.shelf.proofs.Shelving.{carries_shows}

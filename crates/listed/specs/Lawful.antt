@@ -1,15 +1,20 @@
 -- A list of goods keeps to the laws of every resource, and carries exactly what a matching covers.
 use Rattle.std.specs.Prelude.{◌≡◌, ℕ, ◌≤◌, Bool, List, [], length, refl}
-use Rattle.std.proofs.Common.{arith}
+use Rattle.std.proofs.Common.{true, arith}
 use Rattle.claims.specs.declared.Demand.{Demand}
-use Rattle.claims.specs.Book.{Book}
-use Rattle.claims.specs.Limits.{most_goods}
+use Rattle.claims.specs.declared.sorted.Claims.{Claims}
+use Rattle.claims.specs.Held.{claims_book}
+use Rattle.claims.specs.Limits.{most_claims, most_goods}
 use Rattle.claims.specs.Rules.{Laws}
 use Rattle.shelf.proofs.Shelving.{carries_says, carries_shows, shelved_laws}
 use Rattle.matching.specs.Matching.{Matching}
 use Rattle.matching.proofs.Matchings.{carried_matching, matching_carried}
 use Rattle.matching.proofs.Carrying.{none_carried, fewer-carried, waiting-goes, out_unit}
-use Rattle.listed.specs.Lists.{list_kind, listed, Covered, MatchingRule}
+use Rattle.listed.specs.Lists.{list_kind, listed, MatchingRule}
+
+-- a container has few claims
+pub claims_few : (c : Claims) → length (claims_book c) ≤ most_claims
+claims_few c = omega (arith, c.few, c.items.ok.0)
 
 module _ {G : Type 0} (F : G → Demand → Bool) (formed : Demand → Bool) (s : ℕ) (goods : List G) where
   pub list_laws : length goods ≤ most_goods → Laws (listed F formed s goods)
@@ -36,3 +41,7 @@ module _ {G : Type 0} (F : G → Demand → Bool) (formed : Demand → Bool) (s 
     served = λ i c e. absurd (let z : ◌≡◌ {A = ℕ} 0 1 = cc in omega arith);
     apart = λ i j l. absurd (omega arith);
   }
+
+  -- and its claims are carried while they have a matching
+  pub list_carried : (c : Claims) (al : List ℕ) → Matching F goods (claims_book c) al → (listed F formed s goods).carries (claims_book c) ≡ true
+  list_carried c al m = carries_shows s (list_kind F formed goods) (claims_book c) (claims_few c) (matching_carried F goods (claims_book c) al m)

@@ -1,5 +1,5 @@
 -- A list of goods that are not alike, such as rooms or tee places: a demand is for any good that suits it.
-use Rattle.std.specs.Prelude.{◌≡◌, ℕ, ◌≤◌, Bool, List, length, Decides}
+use Rattle.std.specs.Prelude.{ℕ, ◌≤◌, Bool, List, length, Decides}
 use Rattle.claims.specs.declared.Cause.TheVariants.{NoMatching}
 use Rattle.claims.specs.declared.Demand.{Demand}
 use Rattle.claims.specs.Book.{Book}

@@ -1,17 +1,14 @@
 ghost use Rattle.std.specs.Prelude.{◌≡◌, ◌≤◌, length, take, IfOk, vec_len, vec_capacity};
 ghost use Rattle.claims.specs.Held.{claims_book};
 ghost use Rattle.claims.specs.Limits.{most_goods};
-ghost use Rattle.listed.specs.Lists.{listed as listed_by, MatchingRule, list_kind};
+ghost use Rattle.listed.specs.Lists.{listed as listed_by, MatchingRule};
 ghost use Rattle.listed.specs.Views.{list_rules, list_book, list_of, ListSound};
 ghost use Rattle.listed.specs.Sends.{Sends};
 ghost use Rattle.matching.specs.Matching.{Admits};
 ghost use Rattle.resource.specs.Taking.{Takes};
 ghost use Rattle.shelf.specs.Shelves.{Opened};
-ghost use Rattle.listed.specs.Lawful.{list_laws};
+ghost use Rattle.listed.specs.Lawful.{list_laws, list_carried};
 ghost use Rattle.claims.proofs.Ranks.{rises_says};
-ghost use Rattle.std.proofs.Common.{arith, rules};
-ghost use Rattle.shelf.proofs.Shelving.{carries_shows};
-ghost use Rattle.matching.proofs.Matchings.{matching_carried};
 
 use crate::list::Listed;
 use claims::{
@@ -25,7 +22,7 @@ use std::alloc::{AllocError, Global};
 
 // Lets the claim at `new` have a good beside the others, if all of them can be carried.
 fn admit_at<G: Suits>(goods: &[G], claims: &Claims, allotment: &mut Vec<usize>, new: usize) -> bool
-    ensures admits { Admits suiting goods.now (claims_book claims.now) new allotment.old.items result allotment.new.items }
+    ensures admits { Admits G.Suits.suiting goods.now (claims_book claims.now) new allotment.old.items result allotment.new.items }
     ensures long { vec_len allotment.new ≡ vec_len allotment.old }
     ensures room { vec_capacity allotment.new ≡ vec_capacity allotment.old }
 {
@@ -41,7 +38,7 @@ fn send_out<G: Suits>(
     claim: Claim,
 ) -> Option<ItemNumber>
     requires { length goods.now ≤ most_goods }
-    ensures sends { Sends suiting goods.now claim (claims_book claims.old) allotment.old.items result (claims_book claims.new) allotment.new.items }
+    ensures sends { Sends G.Suits.suiting goods.now claim (claims_book claims.old) allotment.old.items result (claims_book claims.new) allotment.new.items }
     ensures size { length (claims_book claims.new) ≡ length (claims_book claims.old) }
     ensures long { vec_len allotment.new ≡ vec_len allotment.old }
     ensures room { vec_capacity allotment.new ≡ vec_capacity allotment.old }
@@ -131,12 +128,9 @@ impl<G: Suits> Resource for Listed<G> {
 
     ghost rising = { λ s _. rises_says (list_book s) s.claims.ordered };
 
-    ghost carried = { λ s h.
-        let F = G.Suits.suiting in
-        let b = list_book s in
-        carries_shows s.shelf (list_kind F G.Suits.formed s.goods.items) b (omega (arith, s.claims.few, s.claims.items.ok.0)) (matching_carried F s.goods.items b s.allotment.items h.matched) };
+    ghost carried = { λ s h. list_carried G.Suits.suiting G.Suits.formed s.shelf s.goods.items s.claims s.allotment.items h.matched };
 
-    ghost read = { λ s _. s.reads };
+    ghost read = { λ s h. h.all_read };
 
     fn place(&mut self, key: ClaimKey, party: Party, demand: Demand) -> Result<(), Fault> {
         self.take_in(Claim::waiting(key, party, demand))

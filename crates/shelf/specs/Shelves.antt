@@ -1,5 +1,5 @@
 -- What all kinds of goods on a shelf have in common.
-use Rattle.std.specs.Prelude.{◌≡◌, ℕ, Bool, true, cond, ◌&&◌, [], length, ◌==◌, nat_le}
+use Rattle.std.specs.Prelude.{◌≡◌, ℕ, Bool, cond, ◌&&◌, [], length, ◌==◌, nat_le}
 use Rattle.claims.specs.declared.Cause.{Cause}
 use Rattle.claims.specs.declared.Cause.TheVariants.{TooManyClaims}
 use Rattle.claims.specs.declared.Demand.{Demand}

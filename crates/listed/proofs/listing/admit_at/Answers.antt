@@ -1,5 +1,5 @@
 -- The allotment is lent whole, and filled again.
-use Rattle.std.proofs.Common.{◌≡◌, ℕ, List, length, drop, vec_items, vec_len, sym, refl, ap, ◌∙◌, subst, arith}
+use Rattle.std.proofs.Common.{◌≡◌, ℕ, List, length, drop, vec_items, vec_len, sym, refl, subst, arith}
 use Rattle.claims.specs.Book.{Book}
 use Rattle.matching.specs.Matching.{Admits}
 use Rattle.listed.proofs.Moves.{refilled}

@@ -1,9 +1,8 @@
 -- Each try that fails rules out one unit more; the first that does not is the least.
-use Rattle.std.proofs.Common.{◌≡◌, ℕ, ◌+◌, ◌<◌, ◌≤◌, Bool, true, false, List, length, vec_items, vec_len, sym, refl, ap, ◌∙◌, subst, arith, rules}
-use Rattle.claims.specs.Book.{Book, key_of, out}
+use Rattle.std.proofs.Common.{◌≡◌, ℕ, ◌+◌, false, length, vec_items, sym, refl, ap, ◌∙◌, subst, arith, rules}
+use Rattle.claims.specs.Book.{key_of, out}
 use Rattle.claims.specs.Held.{claims_book}
-use Rattle.claims.specs.Limits.{most_claims}
-use Rattle.claims.specs.Places.{Stands, rank}
+use Rattle.claims.specs.Places.{Stands}
 use Rattle.claims.proofs.Books.{length-out}
 use Rattle.claims.proofs.Ranks.{found_stands, rises_says}
 use Rattle.matching.specs.Matching.{carried}

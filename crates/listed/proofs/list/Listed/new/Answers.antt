@@ -1,8 +1,7 @@
 -- A new list has the rules that were asked for and no claims, and its rules are those of a matching.
-use Rattle.std.proofs.Common.{◌≡◌, ℕ, List, [], take, vec_items, sym, ap, ◌∙◌, subst}
+use Rattle.std.proofs.Common.{ℕ, List, [], take, vec_items, sym, ap, subst}
 use Rattle.std.proofs.lemmas.Result.{IfOk-from_err}
 use Rattle.claims.specs.Book.{Book, every}
-use Rattle.claims.specs.Held.{claims_book}
 use Rattle.claims.specs.Limits.{most_goods}
 use Rattle.claims.specs.Rules.{readable}
 use Rattle.matching.specs.Matching.{Matching}

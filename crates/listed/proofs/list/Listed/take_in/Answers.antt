@@ -1,5 +1,5 @@
 -- A claim that passes the bars comes in if a matching covers it too, and else all is as it was.
-use Rattle.std.proofs.Common.{◌≡◌, ℕ, ◌+◌, ◌<◌, ◌≤◌, Bool, true, false, List, length, is_ok, Err, vec_items, vec_len, vec_capacity, sym, refl, ap, ◌∙◌, subst, arith}
+use Rattle.std.proofs.Common.{◌≡◌, ℕ, ◌+◌, true, false, List, length, is_ok, Err, vec_items, vec_len, sym, ap, ◌∙◌, subst, arith}
 use Rattle.std.specs.List.{insert as inserted}
 use Rattle.std.proofs.lemmas.Result.{err_from_is_err_and}
 use Rattle.std.proofs.lemmas.Bool.{cond-true}
@@ -61,7 +61,7 @@ pub invariant_of-self : goal.invariant_of-self
 invariant_of-self g c =
     let s = c.args.self.now in
     let n = longer g (goal.at.invariant_of-self g c).After-insert-2 in
-    (s.sized, (omega (arith, n.0, n.1, s.paired, c.admit_at.ensures.long), (omega (arith, s.roomy, c.insert-2.ensures.capacity, c.admit_at.ensures.room), tt)))
+    record { sized = s.sized; paired = omega (arith, n.0, n.1, s.paired, c.admit_at.ensures.long); roomy = omega (arith, s.roomy, c.insert-2.ensures.capacity, c.admit_at.ensures.room) }
 
 -- what the matching answered, of the goods of the list
 admitted : (g : Over) (c : goal.After-admit_at g) → Admits g.G.Suits.suiting (vec_items c.args.self.now.goods) (claims_book c.insert.new.self) c.rank-new.result (vec_items c.insert-2.new.self) c.admit_at.result (vec_items c.admit_at.new.allotment)
@@ -108,7 +108,7 @@ invariant_of-self-2 g c =
     let s = c.args.self.now in
     let n = longer g (goal.at.invariant_of-self-2 g c).After-insert-2 in
     let back : length (claims_book c.remove.new.self) ≡ length (list_book c.args.self.now) = ap length (restored g c) in
-    (s.sized, (omega (arith, n.0, s.paired, c.admit_at.ensures.long, c.remove-2.ensures.len), (omega (arith, s.roomy, c.insert-2.ensures.capacity, c.admit_at.ensures.room, c.remove-2.ensures.capacity), tt)))
+    record { sized = s.sized; paired = omega (arith, n.0, s.paired, c.admit_at.ensures.long, c.remove-2.ensures.len); roomy = omega (arith, s.roomy, c.insert-2.ensures.capacity, c.admit_at.ensures.room, c.remove-2.ensures.capacity) }
 
 pub returns : goal.returns
 returns g c =

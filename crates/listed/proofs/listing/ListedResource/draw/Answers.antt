@@ -1,5 +1,5 @@
 -- A claim that waits goes out with the least unit around which all are carried.
-use Rattle.std.proofs.Common.{◌≡◌, ℕ, ◌≤◌, List, length, Some, None, Ok, vec_items, Option, sym, ap, ◌∙◌, subst, arith}
+use Rattle.std.proofs.Common.{◌≡◌, ℕ, ◌≤◌, List, length, Some, Ok, vec_items, sym, ap, ◌∙◌, subst, arith}
 use Rattle.claims.specs.declared.ClaimState.TheVariants.{Waiting}
 use Rattle.claims.specs.declared.ItemNumber.{ItemNumber}
 use Rattle.claims.specs.Book.{find}

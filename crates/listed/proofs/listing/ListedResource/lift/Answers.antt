@@ -1,5 +1,5 @@
 -- A lifted claim leaves with its good.
-use Rattle.std.proofs.Common.{◌≡◌, ℕ, ◌+◌, ◌<◌, ◌≤◌, List, length, Some, vec_items, sym, refl, ap, ◌∙◌, subst, arith}
+use Rattle.std.proofs.Common.{◌≡◌, ℕ, List, length, Some, vec_items, sym, refl, ap, ◌∙◌, subst, arith}
 use Rattle.std.specs.List.{remove}
 use Rattle.std.proofs.lemmas.List.Edits.{length-remove}
 use Rattle.std.proofs.lemmas.Result.{err_from_is_err_and}
@@ -43,7 +43,7 @@ invariant_of-self g c =
     let at = (there g (goal.at.invariant_of-self g c).After-remove).1 in
     let gone : length (claims_book c.remove.new.self) ≡ length (remove (list_book c.args.self.now) c.rank-at.result) = ap length (c.remove.ensures.after ∙ sym (stands_removed k b c.rank-at.result (stands_some k b c.rank-at.result at).0 at)) in
     let less = length-remove b c.rank-at.result at.within in
-    (s.sized, (omega (arith, s.paired, c.remove-2.ensures.len), (omega (arith, s.roomy, c.remove-2.ensures.capacity), tt)))
+    record { sized = s.sized; paired = omega (arith, s.paired, c.remove-2.ensures.len); roomy = omega (arith, s.roomy, c.remove-2.ensures.capacity) }
 
 pub returns : goal.returns
 returns g c =
