@@ -60,7 +60,7 @@ answered_err k true x f e = (cc, cc)
 answered_err k false x f e = (refl, cc)
 
 -- what placing all claims of a promise answers and leaves
-pub record Placed_all (r : Rules) (b : Book) (n party : ℕ) (ds : List Demand) (answer : Result (Unit {0}) Fault) (b' : Book) : Type 0 where
+pub record PlacedAll (r : Rules) (b : Book) (n party : ℕ) (ds : List Demand) (answer : Result (Unit {0}) Fault) (b' : Book) : Type 0 where
   pub value : answer ≡ fault_or (short_at r 1 b (bundle n party ds))
   pub after : b' ≡ book_or (short_at r 1 b (bundle n party ds)) b (add_all (bundle n party ds) b)
 
@@ -77,7 +77,7 @@ placing_none r b k party ds = record {
   full = ap (λ i. add_all (claims_from i party ds) b) (add-zero k);
 }
 
-pub placing_all : (r : Rules) (b : Book) (n party : ℕ) (ds : List Demand) (j : ℕ) (b' : Book) → length ds ≤ j → Placing r b (4 * n) party ds j b' → Placed_all r b n party ds (Ok tt) b'
+pub placing_all : (r : Rules) (b : Book) (n party : ℕ) (ds : List Demand) (j : ℕ) (b' : Book) → length ds ≤ j → Placing r b (4 * n) party ds j b' → PlacedAll r b n party ds (Ok tt) b'
 placing_all r b n party ds j b' h p =
     let none : drop j ds ≡ [] = drop_all j ds h in
     let s : short_at r 1 b (bundle n party ds) ≡ None = sym p.short ∙ ap (λ xs. short_at r (j + 1) b' (claims_from (4 * n + j) party xs)) none in
@@ -138,7 +138,7 @@ module _ (r : Rules) (b : Book) (n party : ℕ) (ds : List Demand) (ready : Read
       let is : b'' ≡ insert next_claim b' = q.after ∙ ap (added next_claim b') (asked ∙ cond-true _ _ _ carried) in
       rw is (placing_more r b (4 * n) party ds ready.fresh j b' p d h e carried)
 
-  pub turn_err : (f : Fault) → Placed next_claim s b' (Err f) t b'' → (z : Book) → z ≡ lift_all (keys_from (4 * n) (take j ds)) b'' → Placed_all r b n party ds (Err f) z
+  pub turn_err : (f : Fault) → Placed next_claim s b' (Err f) t b'' → (z : Book) → z ≡ lift_all (keys_from (4 * n) (take j ds)) b'' → PlacedAll r b n party ds (Err f) z
   turn_err f q z back =
       let over = answered_err (record { 0 = 4 * n + j }) _ _ f (sym (q.value ∙ ap (answered (record { 0 = 4 * n + j })) asked)) in
       let is : b'' ≡ b' = q.after ∙ ap (added next_claim b') (asked ∙ cond-false _ _ _ over.0) in

@@ -16,7 +16,7 @@ use Rattle.machine.specs.Refusals.{not_carried_for}
 use Rattle.machine.proofs.Keeping.{consistent_minute}
 use Rattle.broker.specs.Asks.{draft_missed, goods_missed, FitsDraft, Grants}
 use Rattle.broker.specs.Bundles.{fault_or, book_or}
-use Rattle.broker.proofs.Bundling.{Placed_all, short_position}
+use Rattle.broker.proofs.Bundling.{PlacedAll, short_position}
 
 missed_more : (qs bs : List (Bool × Refusal)) (x : Refusal) → first_missed qs ≡ Some x → first_missed (qs ++ bs) ≡ Some x
 missed_more [] bs x e = cc
@@ -55,7 +55,7 @@ module _ (r : Rules) (party minutes : ℕ) (ds : List Demand) (s : State) where
       ok_is None f = refl
       ok_is (Some y) f = cc
 
-      pub goods-short : (f : Fault) → length ds ≤ most_demands → Placed_all r s.book n party ds (Err f) b' → ◌≡◌ {A = State × Answer} (record { clock = s.clock; next = s.next; live = s.live; book = b' }, refused (not_carried_for f)) (outcome (goods_missed r party minutes ds s))
+      pub goods-short : (f : Fault) → length ds ≤ most_demands → PlacedAll r s.book n party ds (Err f) b' → ◌≡◌ {A = State × Answer} (record { clock = s.clock; next = s.next; live = s.live; book = b' }, refused (not_carried_for f)) (outcome (goods_missed r party minutes ds s))
       goods-short f few q =
           let e = err_is (short_at r 1 s.book (bundle n party ds)) f q.value in
           let x = e.0 in
@@ -65,7 +65,7 @@ module _ (r : Rules) (party minutes : ℕ) (ds : List Demand) (s : State) where
           let put : Book → State × Answer = λ z. (record { clock = s.clock; next = s.next; live = s.live; book = z }, refused (not_carried_for f)) in
           ap put b-is ∙ sym (ap outcome m)
 
-      pub goods-made : Placed_all r s.book n party ds (Ok tt) b' → (nx : Option ℕ) → nx ≡ after n → (lv : List Promise) → lv ≡ s.live ++ (record { number = n; party = party; last = s.clock + minutes; demands = ds; taken = false } ∷ []) → ◌≡◌ {A = State × Answer} (record { clock = s.clock; next = nx; live = lv; book = b' }, granted n) (outcome (goods_missed r party minutes ds s))
+      pub goods-made : PlacedAll r s.book n party ds (Ok tt) b' → (nx : Option ℕ) → nx ≡ after n → (lv : List Promise) → lv ≡ s.live ++ (record { number = n; party = party; last = s.clock + minutes; demands = ds; taken = false } ∷ []) → ◌≡◌ {A = State × Answer} (record { clock = s.clock; next = nx; live = lv; book = b' }, granted n) (outcome (goods_missed r party minutes ds s))
       goods-made q nx nx-is lv lv-is =
           let o = ok_is (short_at r 1 s.book (bundle n party ds)) q.value in
           let b-is : b' ≡ add_all (bundle n party ds) s.book = q.after ∙ ap (λ z. book_or z s.book (add_all (bundle n party ds) s.book)) o in

@@ -2,7 +2,7 @@ use Rattle.std.proofs.Common.{◌≡◌, length, get_or, take, Ok, Err, ◌∙�
 use Rattle.std.proofs.lemmas.List.{length-take-le, get_or_default}
 use Rattle.claims.specs.declared.Demand.{Demand}
 use Rattle.broker.specs.Bundles.{Ready}
-use Rattle.broker.proofs.Bundling.{Placed_all, turn_ok, turn_err, placing_all}
+use Rattle.broker.proofs.Bundling.{PlacedAll, turn_ok, turn_err, placing_all}
 use Rattle.broker.proofs.bundles.place_claims.Goals as goal
 
 abbrev none : Demand
@@ -31,7 +31,7 @@ returns-in-Err g c =
     let h = c.loop-j-test.true in
     let n : length (take j ds) ≡ j = length-take-le j ds (omega arith) in
     let back = c.lift_first.ensures (take j ds) n in
-    let undone : m.sound x → Ready (m.rules x) (m.book x) c.args.number.0 c.args.party.0 ds → Placed_all (m.rules x) (m.book x) c.args.number.0 c.args.party.0 ds (Err c.in-Err.fault) (m.book c.lift_first.new.resource) = λ s y.
+    let undone : m.sound x → Ready (m.rules x) (m.book x) c.args.number.0 c.args.party.0 ds → PlacedAll (m.rules x) (m.book x) c.args.number.0 c.args.party.0 ds (Err c.in-Err.fault) (m.book c.lift_first.new.resource) = λ s y.
     let i = c.loop-j.invariant s in
     turn_err _ _ c.args.number.0 c.args.party.0 ds y j _ (i.2 y) d h (get_or_default ds j none d h) _ i.1 _ _ c.in-Err.fault (q.placed i.0) _ (back.after (q.kept i.0)) in
     record {
@@ -46,7 +46,7 @@ returns g c =
     let m = g.R.Resource in
     let x = c.args.resource.now in
     let ds = c.args.demands.now in
-    let whole : m.sound x → Ready (m.rules x) (m.book x) c.args.number.0 c.args.party.0 ds → Placed_all (m.rules x) (m.book x) c.args.number.0 c.args.party.0 ds (Ok tt) (m.book c.loop-j.resource) = λ s y.
+    let whole : m.sound x → Ready (m.rules x) (m.book x) c.args.number.0 c.args.party.0 ds → PlacedAll (m.rules x) (m.book x) c.args.number.0 c.args.party.0 ds (Ok tt) (m.book c.loop-j.resource) = λ s y.
     placing_all _ _ c.args.number.0 c.args.party.0 ds c.loop-j.j _ c.loop-j-test.false ((c.loop-j.invariant s).2 y) in
     record {
       kept = λ s. (c.loop-j.invariant s).0;
