@@ -3,8 +3,8 @@ use Rattle.std.specs.Prelude.{◌≡◌, ℕ, zero, suc, ◌+◌, ◌<◌, ◌�
 use Rattle.std.proofs.Common.{sym, ap, ◌∙◌, arith}
 use Rattle.std.specs.List.{slice_get}
 use Rattle.std.proofs.lemmas.List.{at_drop_more, at_drop_all}
-use Rattle.std.proofs.lemmas.Bool.{and_parts, and_from, or_parts, or_from, or_left, not-true, not_from_false, eqb-false, eq-eqb, ne_eqb, leb-true, le-leb, cond_both}
-use Rattle.std.proofs.lemmas.Bool.Decides.{nat_tests}
+use Rattle.std.proofs.lemmas.Bool.{and_parts, and_from, or_parts, or_from, or_left, not-true, not_from_false, eqb-true, eqb-false, eq-eqb, ne_eqb, leb-true, le-leb, cond_both}
+use Rattle.std.specs.Cmp.{both_ways}
 use Rattle.claims.specs.declared.Cause.TheVariants.{ItemTaken}
 use Rattle.claims.specs.declared.Claim.{Claim}
 use Rattle.claims.specs.Book.{Book, key_of, insert, without, sent, out, every}
@@ -15,11 +15,25 @@ use Rattle.goods.specs.Every.{and-true, every-find, every-nth, every_shows, ever
 use Rattle.goods.specs.Fixed.{Fixed, carries_exactly}
 use Rattle.goods.specs.Shelving.{carries_says}
 
+or_swap : (p q r : Bool) → (q || (p || r)) ≡ (p || (q || r))
+or_swap true true r = refl
+or_swap true false r = refl
+or_swap false true r = refl
+or_swap false false r = refl
+
+not_either : (q r : Bool) → (not (q || false) && not r) ≡ not (q || r)
+not_either true r = refl
+not_either false r = refl
+
+eq_swap : (a b : ℕ) → (a == b) ≡ (b == a)
+eq_swap a b = both_ways (a == b) (b == a) (λ e. eq-eqb b a (sym (eqb-true a b e))) (λ e. eq-eqb a b (sym (eqb-true b a e)))
+
 names-insert : (i : ℕ) (x : Claim) (b : Book) → names i (insert x b) ≡ (item x == i || names i b)
 names-insert i x [] = refl
 names-insert i x (c ∷ b) =
     let ih = names-insert i x b in
-    cond_both (nat_lt (key_of x) (key_of c)) (x ∷ c ∷ b) (c ∷ insert x b) (λ r. names i r ≡ (item x == i || names i (c ∷ b))) (λ e. refl) (λ e. grind (arith, nat_tests))
+    cond_both (nat_lt (key_of x) (key_of c)) (x ∷ c ∷ b) (c ∷ insert x b) (λ r. names i r ≡ (item x == i || names i (c ∷ b))) (λ e. refl)
+    (λ e. ap (λ (q : Bool). (item c == i) || q) ih ∙ or_swap (item x == i) (item c == i) (names i b))
 
 names-without : (i k : ℕ) (b : Book) → names i b ≡ false → names i (without k b) ≡ false
 names-without i k [] n = refl
@@ -61,7 +75,11 @@ distinct_with x (c ∷ b) e =
     let ih = distinct_with x b p.1 in
     let more = names-insert (item c) x b in
     cond_both (nat_lt (key_of x) (key_of c)) (x ∷ c ∷ b) (c ∷ insert x b) (λ r. distinct r ≡ not (names (item x) (c ∷ b)))
-    (λ g. and-true (not (names (item x) (c ∷ b))) (distinct (c ∷ b)) e) (λ g. grind (arith, nat_tests))
+    (λ g. and-true (not (names (item x) (c ∷ b))) (distinct (c ∷ b)) e)
+    (λ g.
+    ap (λ (q : Bool). not q && distinct (insert x b)) (more ∙ ap (λ (q : Bool). (item x == item c) || q) free ∙ ap (λ (q : Bool). q || false) (eq_swap (item x) (item c)))
+    ∙ ap (λ (q : Bool). not ((item c == item x) || false) && q) ih
+    ∙ not_either (item c == item x) (names (item x) b))
 
 pub distinct_without : (k : ℕ) (b : Book) → distinct b ≡ true → distinct (without k b) ≡ true
 distinct_without k [] e = refl

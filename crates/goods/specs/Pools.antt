@@ -2,7 +2,7 @@
 use Rattle.std.specs.Prelude.{◌≡◌, ℕ, ◌+◌, ◌-◌, ◌≤◌, Bool, true, false, cond, ◌&&◌, leb, [], ◌∷◌, Some, ◌==◌, nat_le, nat_lt, refl}
 use Rattle.std.proofs.Common.{sym, ap, ◌∙◌, arith}
 use Rattle.std.proofs.lemmas.Bool.{and_parts, leb-true, le-leb, cond_both}
-use Rattle.std.proofs.lemmas.Bool.Decides.{nat_tests}
+use Rattle.std.specs.Cmp.{both_ways}
 use Rattle.claims.specs.declared.Cause.TheVariants.{PoolShort}
 use Rattle.claims.specs.declared.Claim.{Claim}
 use Rattle.claims.specs.Book.{Book, key_of, find, insert, without, sent, out, every}
@@ -67,5 +67,7 @@ fits_in s n used x b e sum =
     let p = and_parts (nat_le (quantities b) n) (every unnumbered b) (carries_says s (pool_kind n) b e).1 in
     let top = leb-true (quantities b) n p.0 in
     let more = quantities-insert x b in
-    let left : leb x.demand.first (n - used) ≡ leb (quantities (insert x b)) n = grind (arith, nat_tests) in
+    let left : leb x.demand.first (n - used) ≡ leb (quantities (insert x b)) n = both_ways (leb x.demand.first (n - used)) (leb (quantities (insert x b)) n)
+    (λ t. le-leb (quantities (insert x b)) n (let h = leb-true x.demand.first (n - used) t in omega arith))
+    (λ t. le-leb x.demand.first (n - used) (let h = leb-true (quantities (insert x b)) n t in omega arith)) in
     ap (λ (q : Bool). q && unnumbered x) left ∙ ap (λ (q : Bool). nat_le (quantities (insert x b)) n && q) (sym (every_with unnumbered x b p.1))
