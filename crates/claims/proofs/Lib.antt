@@ -1,4 +1,3 @@
 pub mod Books
 pub mod Ranges
 pub mod Ranks
-pub mod Shares

@@ -1,10 +1,15 @@
 -- What stands at a key's place in a book by rising key.
-use Rattle.std.proofs.Common.{◌≡◌, ℕ, zero, suc, ◌<◌, ◌≤◌, Bool, true, false, cond, eqb, ltb, [], ◌∷◌, length, get_or, set, Some, None, sym, refl, ap, ◌∙◌, ⊎_elim, arith}
+use Rattle.std.proofs.Common.{◌≡◌, ℕ, zero, suc, ◌<◌, ◌≤◌, Bool, true, false, cond, eqb, ltb, [], ◌∷◌, length, get_or, set, is_some, Some, None, Ok, Option, MatchOption, sym, refl, ap, ◌∙◌, ⊎_elim, arith}
 use Rattle.std.specs.List.{insert as inserted, remove}
-use Rattle.std.proofs.lemmas.Bool.{cond_both, cond-true, cond-false, ltb-true, ltb-false, eq-eqb, ne_eqb, lt-ltb, le-ltb, and_parts, and_from, cases_eq, cases_lt}
+use Rattle.std.specs.Bool.{then_some}
+use Rattle.std.specs.List.Sorted.{IsNonDecreasingBy, IsPartitionPoint}
+use Rattle.std.proofs.lemmas.Bool.{eqb-true, eqb-false, cond_both, cond-true, cond-false, ltb-true, ltb-false, eq-eqb, ne_eqb, lt-ltb, and_parts, and_from, cases_eq, cases_lt}
 use Rattle.std.proofs.lemmas.List.{get_or_default}
+use Rattle.claims.specs.declared.Cause.TheVariants.{KeyTaken, TooManyClaims}
 use Rattle.claims.specs.declared.Claim.{Claim}
 use Rattle.claims.specs.Book.{Book, key_of, find, insert, without, sent, out, Above, Rising}
+use Rattle.claims.specs.Limits.{most_claims}
+use Rattle.claims.specs.Rules.{shut_out, caused}
 use Rattle.claims.specs.Places.{rank, above, rises, Stands}
 use Rattle.claims.proofs.Books.{above_from, find-above, find_head, find_rest}
 
@@ -24,26 +29,26 @@ pub rises_shows : (b : Book) → Rising b → rises b ≡ true
 rises_shows [] h = refl
 rises_shows (c ∷ b) h = and_from (above (key_of c) b) (rises b) (above_shows (key_of c) b h.0) (rises_shows b h.1)
 
--- the place of a key, found by halving
+-- no key falls along a book
 above_at : (j : ℕ) (b : Book) (i : ℕ) (d : Claim) → Above j b → i < length b → j < key_of (get_or b i d)
 above_at j [] i d h l = absurd (omega arith)
 above_at j (c ∷ b) zero d h l = h.0
 above_at j (c ∷ b) (suc i) d h l = above_at j b i d h.1 (omega arith)
 
-pub rank_past : (k : ℕ) (b : Book) (i : ℕ) (d : Claim) → Rising b → i < length b → key_of (get_or b i d) < k → i < rank k b
-rank_past k [] i d h l lt = absurd (omega arith)
-rank_past k (c ∷ b) zero d h l lt = rw (cond-true (ltb (key_of c) k) (suc (rank k b)) 0 (lt-ltb (key_of c) k lt)) (omega arith)
-rank_past k (c ∷ b) (suc i) d h l lt =
-    let ih = rank_past k b i d h.1 (omega arith) lt in
-    let up = above_at (key_of c) b i d h.0 (omega arith) in
-    rw (cond-true (ltb (key_of c) k) (suc (rank k b)) 0 (lt-ltb (key_of c) k (omega arith))) (omega arith)
+pub rising_keys : (b : Book) → Rising b → IsNonDecreasingBy key_of b
+rising_keys [] h i j d le lt = absurd (omega arith)
+rising_keys (c ∷ b) h zero zero d le lt = omega arith
+rising_keys (c ∷ b) h zero (suc j) d le lt = let up = above_at (key_of c) b j d h.0 (omega arith) in omega arith
+rising_keys (c ∷ b) h (suc i) zero d le lt = absurd (omega arith)
+rising_keys (c ∷ b) h (suc i) (suc j) d le lt = rising_keys b h.1 i j d (omega arith) (omega arith)
 
-pub rank-before : (k : ℕ) (b : Book) (i : ℕ) (d : Claim) → i < length b → k ≤ key_of (get_or b i d) → rank k b ≤ i
-rank-before k [] i d l le = absurd (omega arith)
-rank-before k (c ∷ b) zero d l le = rw (cond-false (ltb (key_of c) k) (suc (rank k b)) 0 (le-ltb (key_of c) k le)) (omega arith)
-rank-before k (c ∷ b) (suc i) d l le =
-    let ih = rank-before k b i d (omega arith) le in
-    cond_both (ltb (key_of c) k) (suc (rank k b)) 0 (λ r. r ≤ suc i) (λ e. omega arith) (λ e. omega arith)
+-- where the keys below k end, its place is
+pub rank_is : (k : ℕ) (b : Book) (i : ℕ) → i ≤ length b → IsPartitionPoint (λ c. ltb (key_of c) k ≡ true) (λ c. ltb (key_of c) k ≡ false) b i → i ≡ rank k b
+rank_is k [] i l p = omega arith
+rank_is k (c ∷ b) zero l p = sym (cond-false (ltb (key_of c) k) (suc (rank k b)) 0 (p.1 0 c (omega arith) (omega arith)))
+rank_is k (c ∷ b) (suc i) l p =
+    ap suc (rank_is k b i (omega arith) (λ j d m n. p.0 (suc j) d (omega arith) (omega arith), λ j d m n. p.1 (suc j) d (omega arith) (omega arith)))
+    ∙ sym (cond-true (ltb (key_of c) k) (suc (rank k b)) 0 (p.0 0 c (omega arith) (omega arith)))
 
 pub rank-within : (k : ℕ) (b : Book) → rank k b ≤ length b
 rank-within k [] = omega arith
@@ -121,6 +126,14 @@ lacks_other k b h i x r is ne = find-not k b x h (λ l e. ne (ap key_of is ∙ a
 pub stands : (k : ℕ) (b : Book) (i : ℕ) (x : Claim) → i ≡ rank k b → i < length b → x ≡ get_or b i x → key_of x ≡ k → Stands k b i
 stands k b i x r l is e = record { ranked = r; within = l; keyed = λ d. ap key_of (get_or_default b i d x l ∙ sym is) ∙ e }
 
+-- a key's place holds the claim under it, or there is none
+pub looked_up : (k : ℕ) (b : Book) (i : ℕ) (x : Claim) (o : Option ℕ) → Rising b → i ≡ rank k b → i < length b → x ≡ get_or b i x → o ≡ then_some (eqb (key_of x) k) i → MatchOption o (find b k ≡ None) (λ j. Stands k b j)
+looked_up k b i x o h r l is e = rw e (go (eqb (key_of x) k) refl)
+  where
+    go : (q : Bool) → eqb (key_of x) k ≡ q → MatchOption (then_some q i) (find b k ≡ None) (λ j. Stands k b j)
+    go true y = stands k b i x r l is (eqb-true (key_of x) k y)
+    go false n = lacks_other k b h i x r is (eqb-false (key_of x) k n)
+
 pub stands_found : (k : ℕ) (b : Book) (i : ℕ) (x : Claim) → Stands k b i → x ≡ get_or b i x → Some x ≡ find b k
 stands_found k b i x s is =
     let l = s.within in
@@ -138,6 +151,16 @@ stands_out k u b i x s is =
     let l = s.within in
     let r = s.ranked in
     ap (λ y. set b i (sent u y)) is ∙ ap (λ j. set b j (sent u (get_or b j x))) r ∙ out-rank k u b x (omega arith) (ap (λ j. key_of (get_or b j x)) (sym r) ∙ s.keyed x)
+
+-- a claim that a book does not shut out is under a new key, and there is room for it
+pub not_shut_out : (b : Book) (c : Claim) → Ok tt ≡ caused (shut_out b c) → (shut_out b c ≡ None) × (find b (key_of c) ≡ None) × (length b < most_claims)
+not_shut_out b c e = go (find b (key_of c)) refl (ltb (length b) most_claims) refl e
+  where
+    go : (o : Option Claim) → find b (key_of c) ≡ o → (q : Bool) → ltb (length b) most_claims ≡ q → Ok tt ≡ caused (cond (is_some o) (Some KeyTaken) (cond q None (Some TooManyClaims))) →
+        (cond (is_some o) (Some KeyTaken) (cond q None (Some TooManyClaims)) ≡ None) × (find b (key_of c) ≡ None) × (length b < most_claims)
+    go None f true l g = (refl, f, ltb-true (length b) most_claims l)
+    go None f false l g = absurd (let z : ◌≡◌ {A = ℕ} 0 1 = cc in omega arith)
+    go (Some x) f q l g = absurd (let z : ◌≡◌ {A = ℕ} 0 1 = cc in omega arith)
 
 pub inserted_there : (x : Claim) (b b' : Book) (i : ℕ) (ok : Bool) → ok ≡ true → i ≡ rank (key_of x) b → find b (key_of x) ≡ None → b' ≡ cond ok (inserted b i x) b → b' ≡ insert x b
 inserted_there x b b' i ok y r n e = e ∙ cond-true ok (inserted b i x) b y ∙ ap (λ j. inserted b j x) r ∙ insert-rank x b n

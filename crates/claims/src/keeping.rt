@@ -16,7 +16,7 @@ fn share<C: Counting>(counting: &C, party: Party, claim: &Claim) -> usize
     ensures value { result ≡ share_of (C.Counting.counts counting.now) party.0 claim.now }
     ensures small { result ≤ most_units }
 {
-    if claim.party.0 == party.0 {
+    if claim.party == party {
         counting.units_of(claim.demand)
     } else {
         0
@@ -42,17 +42,7 @@ impl Claims {
     pub fn rank(&self, key: ClaimKey) -> usize
         ensures { result ≡ place key.0 (claims_book self.now) }
     {
-        let mut low = 0;
-        let mut high = self.items.len();
-        while low < high {
-            let middle = low + (high - low) / 2;
-            if self.items[middle].key.0 < key.0 {
-                low = middle + 1;
-            } else {
-                high = middle;
-            }
-        }
-        low
+        self.items.partition_point(|claim| claim.key < key)
     }
 
     // Where the claim under a key stands.
@@ -60,22 +50,28 @@ impl Claims {
         ensures { MatchOption result (held (claims_book self.now) key.0 ≡ None) (λ i. Stands key.0 (claims_book self.now) i) }
     {
         let i = self.rank(key);
-        if i >= self.items.len() {
-            return None;
-        }
-        if self.items[i].key.0 != key.0 {
-            return None;
-        }
-        Some(i)
+        let claim = self.items.get(i)?;
+        (claim.key == key).then_some(i)
     }
 
     // The claim under a key.
     pub fn find(&self, key: ClaimKey) -> Option<Claim>
         ensures { result ≡ held (claims_book self.now) key.0 }
     {
-        match self.position(key) {
-            None => None,
-            Some(i) => Some(self.items[i]),
+        let i = self.position(key)?;
+        Some(self.items[i])
+    }
+
+    // Whether a claim can be taken in: its key is new, and there is room.
+    pub fn check_insert(&self, claim: Claim) -> Result<(), Cause>
+        ensures { result ≡ caused (shut_out (claims_book self.now) claim) }
+    {
+        if self.find(claim.key).is_some() {
+            Err(Cause::KeyTaken)
+        } else if self.items.len() >= MOST_CLAIMS {
+            Err(Cause::TooManyClaims)
+        } else {
+            Ok(())
         }
     }
 
@@ -84,13 +80,9 @@ impl Claims {
         ensures value { result ≡ caused (shut_out (claims_book self.old) claim) }
         ensures after { claims_book self.new ≡ added claim (claims_book self.old) (shut_out (claims_book self.old) claim) }
     {
-        if self.find(claim.key).is_some() {
-            return Err(Cause::KeyTaken);
-        }
-        if self.items.len() >= MOST_CLAIMS {
-            return Err(Cause::TooManyClaims);
-        }
+        self.check_insert(claim)?;
         let i = self.rank(claim.key);
+        // there is room for it, so no memory is asked for and this succeeds
         let _ = self.items.insert(i, claim);
         Ok(())
     }
@@ -100,10 +92,8 @@ impl Claims {
         ensures value { result ≡ held (claims_book self.old) key.0 }
         ensures after { claims_book self.new ≡ without key.0 (claims_book self.old) }
     {
-        match self.position(key) {
-            None => None,
-            Some(i) => Some(self.items.remove(i)),
-        }
+        let i = self.position(key)?;
+        Some(self.items.remove(i))
     }
 
     // Lets the claim under a key, if there is one, go out with a unit.
@@ -111,13 +101,7 @@ impl Claims {
         ensures { claims_book self.new ≡ out key.0 unit.0 (claims_book self.old) }
     {
         if let Some(i) = self.position(key) {
-            let claim = self.items[i];
-            self.items[i] = Claim {
-                key: claim.key,
-                party: claim.party,
-                demand: claim.demand,
-                state: ClaimState::Out(unit),
-            };
+            self.items[i].state = ClaimState::Out(unit);
         }
     }
 
@@ -125,11 +109,10 @@ impl Claims {
     pub fn party_units<C: Counting>(&self, counting: &C, party: Party) -> usize
         ensures { result ≡ units_of (C.Counting.counts counting.now) party.0 (claims_book self.now) }
     {
-        let mut sum = 0;
-        for claim in self.items.as_slice() {
-            sum += share(counting, party, claim);
-        }
-        sum
+        self.items
+            .iter()
+            .map(|claim| share(counting, party, claim))
+            .sum()
     }
 
     // The claims, by rising key.

@@ -32,23 +32,23 @@ pub const MOST_UNITS: u32 = 60000;
 pub const LAST_UNIT: u32 = 65535;
 
 // Names a promise; no two promises of a broker have the same one.
-#[derive(Clone, Copy)]
+#[derive(Clone, Copy, Default, PartialEq, Eq, PartialOrd, Ord)]
 pub struct PromiseNumber(pub u32);
 
 // Names one good of a resource, from 1; 0 stands for a good without a number.
-#[derive(Clone, Copy)]
+#[derive(Clone, Copy, Default, PartialEq, Eq)]
 pub struct ItemNumber(pub u32);
 
 // Names who holds a promise.
-#[derive(Clone, Copy)]
+#[derive(Clone, Copy, Default, PartialEq, Eq)]
 pub struct Party(pub u32);
 
 // Names a claim in a book.
-#[derive(Clone, Copy)]
+#[derive(Clone, Copy, Default, PartialEq, Eq, PartialOrd, Ord)]
 pub struct ClaimKey(pub u64);
 
 // What is wanted of one shelf; what the two numbers mean is the shelf's affair.
-#[derive(Clone, Copy)]
+#[derive(Clone, Copy, Default)]
 pub struct Demand {
     pub shelf: u32,
     pub first: u32,
@@ -75,23 +75,23 @@ pub struct Claim {
 #[derive(Clone, Copy)]
 pub enum Cause {
     // the party is none, or the demand is not read
-    Unreadable,
+    Unreadable = 11,
     // the key is in the book
-    KeyTaken,
+    KeyTaken = 12,
     // the key is not in the book
-    NoSuchKey,
+    NoSuchKey = 13,
     // the claim is out already
-    AlreadyOut,
+    AlreadyOut = 14,
     // a pool has too little left
-    PoolShort,
+    PoolShort = 21,
     // a named good is promised, or there is none of that number
-    ItemTaken,
+    ItemTaken = 22,
     // the claims cannot all be given goods that suit them
-    NoMatching,
+    NoMatching = 23,
     // the party would pass its limit
-    OverLimit,
+    OverLimit = 24,
     // the book would have too many claims
-    TooManyClaims,
+    TooManyClaims = 25,
 }
 
 // A refusal of a resource: its cause, and the key that the call was for.
@@ -106,7 +106,7 @@ impl Party {
     pub fn is_known(self) -> bool
         ensures { result ≡ is_party self }
     {
-        (1 <= self.0) & (self.0 <= LAST_PARTY)
+        (1..=LAST_PARTY).contains(&self.0)
     }
 }
 
@@ -155,16 +155,6 @@ impl Cause {
     pub fn number(self) -> u8
         ensures { result ≡ cause_number self }
     {
-        match self {
-            Cause::Unreadable => 11,
-            Cause::KeyTaken => 12,
-            Cause::NoSuchKey => 13,
-            Cause::AlreadyOut => 14,
-            Cause::PoolShort => 21,
-            Cause::ItemTaken => 22,
-            Cause::NoMatching => 23,
-            Cause::OverLimit => 24,
-            Cause::TooManyClaims => 25,
-        }
+        self as u8
     }
 }

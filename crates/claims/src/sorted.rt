@@ -4,7 +4,8 @@ ghost use Rattle.claims.specs.Places.{rises};
 
 use crate::Claim;
 
-// The claims of a book, by rising key, with room for as many as a book may have.
+// The claims of a book, by rising key, with room for as many as a book may have. A vector, since its room is asked
+// for once, where a map asks for memory at each claim.
 #[derive(Drop)]
 pub struct Claims {
     pub(crate) items: Vec<Claim>,

@@ -46,7 +46,7 @@ pub enum Refusal {
 }
 
 impl Refusal {
-    // The number by which a refusal is told.
+    // The number by which a refusal is told. A match, since a variant with values is not cast to a number.
     pub fn number(self) -> u8
         ensures { result ≡ refusal_number self }
     {
@@ -70,16 +70,17 @@ impl From<Fault> for Refusal {
     ghost from_gives = { λ fault refusal. refusal ≡ not_carried_for fault };
 
     fn from(fault: Fault) -> Refusal {
-        Refusal::NotCarried((fault.key.0 % MOST_DEMANDS as u64) as u8 + 1, fault)
+        let position = (fault.key.0 % MOST_DEMANDS as u64) as u8 + 1;
+        Refusal::NotCarried(position, fault)
     }
 }
 
 // What stands under a promise number: nothing, or a promise in its state.
 #[derive(Clone, Copy)]
 pub enum Slot {
-    Empty,
-    Promised,
-    Taken,
+    Empty = 0,
+    Promised = 1,
+    Taken = 2,
 }
 
 // What can happen to a promise.
@@ -96,11 +97,7 @@ impl Slot {
     pub fn number(self) -> u8
         ensures { result ≡ slot_number self }
     {
-        match self {
-            Slot::Empty => 0,
-            Slot::Promised => 1,
-            Slot::Taken => 2,
-        }
+        self as u8
     }
 
     // What an event makes of what it finds; none where it does not fit.

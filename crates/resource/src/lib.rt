@@ -1,11 +1,12 @@
 // What every kind of goods answers to.
 #![tactic(auto)]
 
-ghost use Rattle.std.specs.Prelude.{◌≡◌, true, length};
-ghost use Rattle.claims.specs.Book.{Book, Rising, every, find};
-ghost use Rattle.claims.specs.Rules.{Rules, Laws, readable, waiting, seated};
+ghost use Rattle.std.specs.Prelude.{◌≡◌, length};
+ghost use Rattle.claims.specs.Book.{Book, find};
+ghost use Rattle.claims.specs.Rules.{Rules, waiting, seated};
 ghost use Rattle.claims.specs.Units.{units_of};
 ghost use Rattle.resource.specs.Calls.{Placed, Lifted, Drawn};
+ghost use Rattle.resource.specs.Standing.{Standing};
 
 use claims::{Claim, ClaimKey, Demand, Fault, ItemNumber, Party};
 
@@ -17,60 +18,59 @@ pub trait Resource {
     // The claims that are in it.
     ghost book: { Self → Book };
 
-    // What holds of a value between calls. Each call keeps it, and says nothing where it does not hold.
-    ghost sound: { Self → Type 0 };
+    // Takes in a claim, which waits or is out with a unit, or says why not; the book then stays as it was.
+    fn take_in(&mut self, claim: Claim) -> Result<(), Fault>
+        ensures { Placed claim (rules self.old) (book self.old) result (rules self.new) (book self.new) };
 
-    // Takes in a claim that waits, or says why not; the book then stays.
-    fn place(&mut self, key: ClaimKey, party: Party, demand: Demand) -> Result<(), Fault>
-        ensures kept { sound self.old → sound self.new }
-        ensures placed { sound self.old → Placed (waiting key party demand) (rules self.old) (book self.old) result (rules self.new) (book self.new) };
+    // Takes in a claim that waits.
+    final fn place(&mut self, key: ClaimKey, party: Party, demand: Demand) -> Result<(), Fault>
+        ensures { Placed (waiting key party demand) (rules self.old) (book self.old) result (rules self.new) (book self.new) }
+    {
+        self.take_in(Claim::waiting(key, party, demand))
+    }
 
     // Takes in a claim that is out with a unit.
-    fn seat(
+    final fn seat(
         &mut self,
         key: ClaimKey,
         party: Party,
         demand: Demand,
         unit: ItemNumber,
     ) -> Result<(), Fault>
-        ensures kept { sound self.old → sound self.new }
-        ensures placed { sound self.old → Placed (seated key party demand unit) (rules self.old) (book self.old) result (rules self.new) (book self.new) };
+        ensures { Placed (seated key party demand unit) (rules self.old) (book self.old) result (rules self.new) (book self.new) }
+    {
+        self.take_in(Claim::seated(key, party, demand, unit))
+    }
 
     // Lets a waiting claim go out with the least unit that keeps the book carried.
     fn draw(&mut self, key: ClaimKey) -> Result<ItemNumber, Fault>
-        ensures kept { sound self.old → sound self.new }
-        ensures drawn { sound self.old → Drawn key (rules self.old) (book self.old) result (rules self.new) (book self.new) };
+        ensures { Drawn key (rules self.old) (book self.old) result (rules self.new) (book self.new) };
 
     // Takes a claim out of the book.
     fn lift(&mut self, key: ClaimKey) -> Result<(), Fault>
-        ensures kept { sound self.old → sound self.new }
-        ensures lifted { sound self.old → Lifted key (rules self.old) (book self.old) result (rules self.new) (book self.new) };
+        ensures { Lifted key (rules self.old) (book self.old) result (rules self.new) (book self.new) };
 
     // The claim under a key.
     fn claim(&self, key: ClaimKey) -> Option<Claim>
-        ensures { sound self.now → result ≡ find (book self.now) key.0 };
+        ensures { result ≡ find (book self.now) key.0 };
 
     // How many claims there are.
     fn count(&self) -> usize
-        ensures { sound self.now → result ≡ length (book self.now) };
+        ensures { result ≡ length (book self.now) };
 
     // Whether a demand is read.
     fn reads(&self, demand: Demand) -> bool
-        ensures { sound self.now → result ≡ (rules self.now).reads demand };
+        ensures { result ≡ (rules self.now).reads demand };
 
     // How many units a demand counts; 0 for one that is not read.
     fn units(&self, demand: Demand) -> usize
-        ensures { sound self.now → result ≡ (rules self.now).counts demand };
+        ensures { result ≡ (rules self.now).counts demand };
 
     // The units of all claims of a party.
     fn party_units(&self, party: Party) -> usize
-        ensures { sound self.now → result ≡ units_of (rules self.now).counts party.0 (book self.now) };
+        ensures { result ≡ units_of (rules self.now).counts party.0 (book self.now) };
 
-    ghost lawful: { (s : Self) → Laws (rules s) };
-
-    ghost rising: { (s : Self) → sound s → Rising (book s) };
-
-    ghost carried: { (s : Self) → sound s → (rules s).carries (book s) ≡ true };
-
-    ghost read: { (s : Self) → sound s → every (readable (rules s)) (book s) ≡ true };
+    // What holds of every resource at any time: its rules keep to the laws of every kind, its book rises by key and
+    // is carried, and each claim in it is a party's and of a demand that is read.
+    ghost standing: { (s : Self) → Standing (rules s) (book s) };
 }

@@ -1,6 +1,6 @@
 -- What holds of every kind of goods on a shelf: how it takes claims in, and which laws follow from those of its goods.
 use Rattle.std.proofs.Common.{◌≡◌, ℕ, ◌<◌, ◌≤◌, Bool, true, false, cond, ◌&&◌, eqb, ltb, leb, [], length, is_some, Some, None, Ok, Err, Option, Result, sym, refl, ap, ◌∙◌, subst, add-one, arith}
-use Rattle.std.proofs.lemmas.Bool.{and_parts, and_from, eqb-true, leb-true, le-leb, ltb-true, cond-true, cond-false}
+use Rattle.std.proofs.lemmas.Bool.{and_parts, and_from, eqb-true, leb-true, le-leb, cond-true, cond-false}
 use Rattle.claims.specs.declared.Cause.{Cause}
 use Rattle.claims.specs.declared.Cause.TheVariants.{Unreadable, KeyTaken, NoSuchKey, AlreadyOut, TooManyClaims}
 use Rattle.claims.specs.declared.Claim.{Claim}
@@ -12,8 +12,9 @@ use Rattle.claims.specs.declared.Fault.{Fault}
 use Rattle.claims.specs.declared.ItemNumber.{ItemNumber}
 use Rattle.claims.specs.Book.{Book, key_of, find, insert, without, out, Rising, every}
 use Rattle.claims.specs.Limits.{most_claims, last_shelf, most_units, last_unit}
-use Rattle.claims.specs.Rules.{Rules, Laws, refusal, answered, added, lifted, shut_out, readable, is_party}
+use Rattle.claims.specs.Rules.{Rules, Laws, refusal, answered, added, lifted, shut_out, caused, readable, is_party}
 use Rattle.claims.proofs.Books.{length-insert, length_without, length-out, every-insert, every-without, without_absent}
+use Rattle.claims.proofs.Ranks.{not_shut_out}
 use Rattle.resource.specs.Calls.{Placed, Lifted}
 use Rattle.resource.proofs.Refusals.{welcomed}
 use Rattle.shelf.specs.Asked.{barred, found, found_waiting}
@@ -39,15 +40,6 @@ let_in : (q : Bool) (o : Option Cause) → cond q o (Some Unreadable) ≡ None �
 let_in true o e = e
 let_in false o e = cc
 
--- a claim that a container takes in is under a new key, and there is room for it
-taken_in : (b : Book) (c : Claim) → shut_out b c ≡ None → (find b (key_of c) ≡ None) × (length b < most_claims)
-taken_in b c e = go (find b (key_of c)) refl (ltb (length b) most_claims) refl e
-  where
-    go : (o : Option Claim) → find b (key_of c) ≡ o → (q : Bool) → ltb (length b) most_claims ≡ q → cond (is_some o) (Some KeyTaken) (cond q None (Some TooManyClaims)) ≡ None → (find b (key_of c) ≡ None) × (length b < most_claims)
-    go None f true l g = (f, ltb-true (length b) most_claims l)
-    go None f false l g = absurd (let z : ◌≡◌ {A = ℕ} 0 1 = cc in omega arith)
-    go (Some x) f q l g = absurd (let z : ◌≡◌ {A = ℕ} 0 1 = cc in omega arith)
-
 -- what a claim is that passes the bars
 pub record Passed (b : Book) (c : Claim) : Type 0 where
   pub comes : (b' : Book) → b' ≡ added c b (shut_out b c) → b' ≡ insert c b
@@ -57,8 +49,8 @@ pub record Passed (b : Book) (c : Claim) : Type 0 where
 pub passed_bars : (b : Book) (c : Claim) (read : Bool) → Ok tt ≡ answered c.key (barred read b c) → Passed b c
 passed_bars b c read e =
     let open-to = let_in (is_party c.party && read) (shut_out b c) (unbarred c.key (barred read b c) e) in
-    let t = taken_in b c open-to in
-    record { comes = λ b' after. after ∙ ap (added c b) open-to; absent = t.0; room = t.1 }
+    let t = not_shut_out b c (sym (ap caused open-to)) in
+    record { comes = λ b' after. after ∙ ap (added c b) open-to; absent = t.1; room = t.2 }
 
 -- a claim that has come into a book
 pub record Entered (s : ℕ) (k : Kind) (b b' : Book) (c : Claim) : Type 0 where

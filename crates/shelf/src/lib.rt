@@ -8,53 +8,43 @@ ghost use Rattle.claims.specs.Rules.{answered};
 ghost use Rattle.shelf.specs.Asked.{barred, found, found_waiting};
 ghost use Rattle.shelf.specs.Shelves.{on_shelf, one_number};
 
-use claims::{Cause, Claim, ClaimKey, ClaimState, Claims, Demand, Fault, LAST_SHELF, MOST_CLAIMS};
+use claims::{Cause, Claim, ClaimKey, ClaimState, Claims, Demand, Fault, LAST_SHELF};
 
 // Whether a demand is of the shelf, which has to be one of the shelves.
 pub fn is_on_shelf(demand: Demand, shelf: u32) -> bool
     ensures { result ≡ on_shelf shelf demand }
 {
-    (1 <= shelf) & (shelf <= LAST_SHELF) & (demand.shelf == shelf)
+    (1..=LAST_SHELF).contains(&shelf) && demand.shelf == shelf
 }
 
 // Whether a demand gives a number from 1 up to `most`, and nothing beside.
 pub fn gives_one_number(demand: Demand, most: u32) -> bool
     ensures { result ≡ one_number most demand }
 {
-    (1 <= demand.first) & (demand.first <= most) & (demand.second == 0)
+    (1..=most).contains(&demand.first) && demand.second == 0
 }
 
 // Turns a claim away before the goods are looked at; `read` says whether its demand is read.
 pub fn check_entry(claims: &Claims, claim: Claim, read: bool) -> Result<(), Fault>
     ensures { result ≡ answered claim.key (barred read (claims_book claims.now) claim) }
 {
+    let entry = if claim.party.is_known() && read {
+        claims.check_insert(claim)
+    } else {
+        Err(Cause::Unreadable)
+    };
     let key = claim.key;
-    if !(claim.party.is_known() & read) {
-        let cause = Cause::Unreadable;
-        return Err(Fault { cause, key });
-    }
-    if claims.find(key).is_some() {
-        let cause = Cause::KeyTaken;
-        return Err(Fault { cause, key });
-    }
-    if claims.len() >= MOST_CLAIMS {
-        let cause = Cause::TooManyClaims;
-        return Err(Fault { cause, key });
-    }
-    Ok(())
+    entry.map_err(|cause| Fault { cause, key })
 }
 
 // The claim under a key.
 pub fn held_under(claims: &Claims, key: ClaimKey) -> Result<Claim, Fault>
     ensures { result ≡ found key (held (claims_book claims.now) key.0) }
 {
-    match claims.find(key) {
-        Some(claim) => Ok(claim),
-        None => Err(Fault {
-            cause: Cause::NoSuchKey,
-            key,
-        }),
-    }
+    claims.find(key).ok_or(Fault {
+        cause: Cause::NoSuchKey,
+        key,
+    })
 }
 
 // The claim under a key, if it waits.

@@ -1,39 +1,24 @@
-use Rattle.std.proofs.Common.{◌≡◌, ◌+◌, ◌≤◌, length, get_or, sym, ap, ◌∙◌, arith, rules}
-use Rattle.claims.specs.Book.{Book}
-use Rattle.claims.specs.Held.{claims_book}
-use Rattle.claims.specs.Units.{share}
-use Rattle.claims.specs.declared.Claim.{Claim}
-use Rattle.claims.specs.declared.ClaimState.TheVariants.{Waiting}
-use Rattle.claims.proofs.Shares.{units_more, units_end}
+use Rattle.std.proofs.Common.{◌≤◌, ◌^◌, length, sym, ap, ◌∙◌, refl, arith, rules, tests}
+use Rattle.std.proofs.lemmas.Iterator.{YieldsList-from_slice, YieldsList-from_map}
+use Rattle.std.proofs.lemmas.Iterator.Adapters.{fits_from_length, at_most_from_yields_List}
+use Rattle.std.proofs.lemmas.Iterator.Consumers.{sum_by_from_yields_List}
+use Rattle.std.proofs.lemmas.List.Recursion.{is_sum_by}
+use Rattle.claims.specs.Limits.{most_claims}
+use Rattle.claims.specs.Units.{share, units_of}
 use Rattle.claims.proofs.sorted.Claims.party_units.Goals as goal
 
--- what is read past the end of a slice of claims
-abbrev blank : Claim
-blank = record { key = record { 0 = 0 }; party = record { 0 = 0 }; demand = record { shelf = 0; first = 0; second = 0 }; state = Waiting }
-
-pub overflow_add-sum : goal.overflow_add-sum
-overflow_add-sum g c =
+-- at most 256 claims, each of at most 60000 units
+pub sum-requires-clause-fits : goal.sum-requires-clause-fits
+sum-requires-clause-fits g c =
     let s = c.args.self.now in
-    let e : length c.as_slice-claim-items.result.now ≡ length (claims_book s) = ap length c.as_slice-claim-items.ensures.value in
-    let low : c.loop-claim.sum + c.share-sum.result ≤ 15360000 = omega (arith, c.loop-claim.invariant.1, c.share-sum.ensures.small, c.loop-claim-test.true, s.few, s.items.ok.0) in
-    search rules
-
-pub loop-claim-init : goal.loop-claim-init
-loop-claim-init g c = (omega arith, omega arith)
-
-pub loop-claim-preserved : goal.loop-claim-preserved
-loop-claim-preserved g c =
-    let b = claims_book c.args.self.now in
-    let i = c.loop-claim.claim-index in
-    let counts = g.C.Counting.counts c.args.counting.now in
-    let e : length c.as_slice-claim-items.result.now ≡ length b = ap length c.as_slice-claim-items.ensures.value in (
-      units_more counts c.args.party.0 i c.loop-claim.sum c.share-sum.result b blank (omega (arith, c.loop-claim-test.true))
-          (ap (λ (ys : Book). share counts c.args.party.0 (get_or ys i blank)) (sym c.as_slice-claim-items.ensures.value) ∙ sym c.share-sum.ensures.value) c.loop-claim.invariant.0,
-      omega (arith, c.loop-claim.invariant.1, c.share-sum.ensures.small),
-    )
+    let few : length c.deref.result.now ≤ most_claims = omega (arith, s.few, s.items.ok.0, ap length c.deref.ensures.value) in
+    fits_from_length _ _ most_claims (2 ^ 64) (at_most_from_yields_List (YieldsList-from_slice c.deref.result.now cc) few) c.map.ensures.closure (omega arith) (λ x r q k. search rules)
 
 pub returns : goal.returns
 returns g c =
-    let b = claims_book c.args.self.now in
-    let e : length c.as_slice-claim-items.result.now ≡ length b = ap length c.as_slice-claim-items.ensures.value in
-    units_end (g.C.Counting.counts c.args.counting.now) c.args.party.0 c.loop-claim.claim-index c.loop-claim.sum b (omega (arith, c.loop-claim-test.false)) c.loop-claim.invariant.0
+    let counts = g.C.Counting.counts c.args.counting.now in
+    let p = c.args.party.0 in
+    let b = c.deref.result.now in
+    sum_by_from_yields_List (share counts p) b c.map.result c.sum.result c.sum.ensures.ran
+    (YieldsList-from_map _ (share counts p) (YieldsList-from_slice b cc) c.map.ensures.closure (λ x r q k. search (rules, tests)))
+    ∙ sym (is_sum_by (units_of counts p) (share counts p) refl (λ _ _. refl) b) ∙ ap (units_of counts p) c.deref.ensures.value

@@ -1,12 +1,14 @@
-use Rattle.std.proofs.Common.{vec_items, sym, ap, ◌∙◌, arith}
+use Rattle.std.proofs.Common.{◌≡◌, vec_items, sym, ap, ◌∙◌, arith}
 use Rattle.claims.specs.Book.{without}
 use Rattle.claims.specs.Places.{rises}
 use Rattle.claims.proofs.Books.{rising-without, without_absent}
 use Rattle.claims.proofs.Ranks.{rises_says, rises_shows, stands_found, stands_removed}
 use Rattle.claims.proofs.sorted.Claims.remove.Goals as goal
+use Rattle.claims.proofs.sorted.Claims.remove.Goals.{After-remove}
 
-pub remove-requires : goal.remove-requires
-remove-requires c = omega (arith, c.args.self.now.items.ok.0, c.in-Some.ensures.within)
+-- the items that are left
+left : (c : goal.After-remove) → vec_items c.remove.new.self ≡ without c.args.key.0 (vec_items c.args.self.now.items)
+left c = c.remove.ensures.items ∙ stands_removed c.args.key.0 (vec_items c.args.self.now.items) c.in_ok-i.i c.remove.result c.in_ok-i.ensures
 
 pub invariant_of-self : goal.invariant_of-self
 invariant_of-self c =
@@ -16,17 +18,14 @@ invariant_of-self c =
     record {
       roomy = omega (arith, s.roomy, c.remove.ensures.capacity);
       few = omega (arith, s.few, c.remove.ensures.len);
-      ordered = ap rises (c.remove.ensures.items ∙ stands_removed k b c.in-Some.i c.remove.result c.in-Some.ensures) ∙ rises_shows (without k b) (rising-without k b (rises_says b s.ordered));
+      ordered = ap rises (left c) ∙ rises_shows (without k b) (rising-without k b (rises_says b s.ordered));
     }
 
-pub returns-in-None : goal.returns-in-None
-returns-in-None c = record { value = sym c.in-None.ensures; after = sym (without_absent c.args.key.0 (vec_items c.args.self.now.items) c.in-None.ensures) }
+pub returns-in_err-i-clause-after : goal.returns-in_err-i-clause-after
+returns-in_err-i-clause-after c = sym (without_absent c.args.key.0 (vec_items c.args.self.now.items) c.in_err-i.ensures)
 
-pub returns-in-Some : goal.returns-in-Some
-returns-in-Some c =
-    let b = vec_items c.args.self.now.items in
-    let k = c.args.key.0 in
-    record {
-      value = stands_found k b c.in-Some.i c.remove.result c.in-Some.ensures c.remove.ensures.value;
-      after = c.remove.ensures.items ∙ stands_removed k b c.in-Some.i c.remove.result c.in-Some.ensures;
-    }
+pub returns-clause-value : goal.returns-clause-value
+returns-clause-value c = stands_found c.args.key.0 (vec_items c.args.self.now.items) c.in_ok-i.i c.remove.result c.in_ok-i.ensures c.remove.ensures.value
+
+pub returns-clause-after : goal.returns-clause-after
+returns-clause-after c = left (goal.at.returns-clause-after c).After-remove

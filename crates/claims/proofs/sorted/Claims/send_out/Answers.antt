@@ -14,11 +14,11 @@ invariant_of-self c =
     record {
       roomy = s.roomy;
       few = s.few;
-      ordered = ap rises (stands_out k u b c.in-Some.i c.index-claim.result.now c.in-Some.ensures c.index-claim.ensures) ∙ rises_shows (out k u b) (rising-out k u b (rises_says b s.ordered));
+      ordered = ap rises (stands_out k u b c.in-Some.i c.index_mut.result.now c.in-Some.ensures c.index_mut.ensures.value) ∙ rises_shows (out k u b) (rising-out k u b (rises_says b s.ordered));
     }
 
 pub returns-in-Some : goal.returns-in-Some
-returns-in-Some c = stands_out c.args.key.0 c.args.unit.0 (vec_items c.args.self.now.items) c.in-Some.i c.index-claim.result.now c.in-Some.ensures c.index-claim.ensures
+returns-in-Some c = stands_out c.args.key.0 c.args.unit.0 (vec_items c.args.self.now.items) c.in-Some.i c.index_mut.result.now c.in-Some.ensures c.index_mut.ensures.value
 
 pub returns-in_default : goal.returns-in_default
 returns-in_default c = sym (out_absent c.args.key.0 c.args.unit.0 (vec_items c.args.self.now.items) c.in_default.ensures)
