@@ -10,17 +10,17 @@ use Rattle.claims.specs.declared.ClaimState.{ClaimState}
 use Rattle.claims.specs.declared.ClaimState.TheVariants.{Waiting, Out}
 use Rattle.claims.specs.declared.Demand.{Demand}
 use Rattle.claims.specs.declared.ItemNumber.{ItemNumber}
-use Rattle.claims.specs.Book.{Book, find, without, out, every}
+use Rattle.claims.specs.Book.{Book, waits_or_has, find, insert, without, out, every}
 use Rattle.claims.specs.Limits.{most_claims, most_units, last_unit}
 use Rattle.claims.specs.Rules.{Rules, Laws, readable}
 use Rattle.claims.proofs.Books.{length-out, every-without}
 use Rattle.resource.specs.Calls.{Drawn}
 use Rattle.resource.specs.Draws.{drawn}
 use Rattle.resource.proofs.Refusals.{least_is, goes-out}
-use Rattle.goods.specs.Asked.{found_waiting}
-use Rattle.goods.specs.Shelves.{Kind, waits_or_has, shelved}
-use Rattle.goods.specs.Every.{true-and, every-find, every-nth, every_shows, every-sent, every-out}
-use Rattle.goods.specs.Shelving.{carries_says, carries_shows, waits_there, shelved_laws}
+use Rattle.shelf.specs.Asked.{found_waiting}
+use Rattle.shelf.specs.Shelves.{Kind, shelved}
+use Rattle.shelf.proofs.Every.{true-and, every-find, every-nth, every_shows, every_with, every-sent, every-out}
+use Rattle.shelf.proofs.Shelving.{carries_says, carries_shows, waits_there, shelved_laws}
 
 -- whether a claim has its unit, by what its state says
 unit_says : (u : ℕ) (q : ClaimState) (i : ItemNumber) → waits_or_has u q ≡ true → q ≡ Out i → i.0 ≡ u
@@ -50,21 +50,25 @@ proper f c = waits_or_has (f.unit c.demand) c.state
 abbrev pub kind_of : Fixed → Kind
 kind_of f = record { formed = f.formed; amount = f.amount; enough = λ b. f.suffice b && every (proper f) b; short = f.short }
 
+-- the rules of such goods on the shelf s
+abbrev pub rules_of : ℕ → Fixed → Rules
+rules_of s f = shelved s (kind_of f)
+
 -- a book carried by such goods
 pub record Carried (f : Fixed) (b : Book) : Type 0 where
   pub few : length b ≤ most_claims
   pub sufficient : f.suffice b ≡ true
   pub units : (i : ℕ) (c : Claim) (u : ItemNumber) → slice_get b i ≡ Some c → c.state ≡ Out u → u.0 ≡ f.unit c.demand
 
--- a claim that has gone out
-pub record Gone (s : ℕ) (f : Fixed) (k : ClaimKey) (b b' : Book) (c : Claim) : Type 0 where
-  pub carried : (shelved s (kind_of f)).carries b' ≡ true
-  pub all_read : every (readable (shelved s (kind_of f))) b' ≡ true
-  pub drawn : Drawn k (shelved s (kind_of f)) b (Ok (record { 0 = f.unit c.demand })) (shelved s (kind_of f)) b'
+-- a claim that has gone out with a unit
+pub record Gone (r : Rules) (k : ClaimKey) (b b' : Book) (u : ItemNumber) : Type 0 where
+  pub carried : r.carries b' ≡ true
+  pub all_read : every (readable r) b' ≡ true
+  pub drawn : Drawn k r b (Ok u) r b'
 
 module _ (s : ℕ) (f : Fixed) where
   abbrev rules : Rules
-  rules = shelved s (kind_of f)
+  rules = rules_of s f
 
   pub carries_exactly : (b : Book) → Decides (rules.carries b) (Carried f b)
   carries_exactly b = (
@@ -75,6 +79,14 @@ module _ (s : ℕ) (f : Fixed) where
     (λ h. carries_shows s (kind_of f) b h.few
         (and_from (f.suffice b) (every (proper f) b) h.sufficient (every_shows (proper f) b (λ i c g. unit_shows (f.unit c.demand) c.state (λ u w. h.units i c u g w))))),
   )
+
+  -- where a book is carried, one claim more has to find goods, and to wait or to have the unit of its demand
+  pub enough_with : (x : Claim) (b : Book) (q r : Bool) (u : ℕ) → rules.carries b ≡ true → (f.suffice b ≡ true → q ≡ f.suffice (insert x b)) → u ≡ f.unit x.demand → r ≡ waits_or_has u x.state → (q && r) ≡ (kind_of f).enough (insert x b)
+  enough_with x b q r u e suffices is own =
+      let p = and_parts (f.suffice b) (every (proper f) b) (carries_says s (kind_of f) b e).1 in
+      let one = suffices p.0 in
+      let two = every_with (proper f) x b p.1 in
+      cc
 
   -- going out, a claim leaves the book carried exactly with the unit of its demand
   enough-out : (j u : ℕ) (c : Claim) (b : Book) → (kind_of f).enough b ≡ true → find b j ≡ Some c → (kind_of f).enough (out j u b) ≡ (u == f.unit c.demand)
@@ -95,14 +107,13 @@ module _ (s : ℕ) (f : Fixed) where
       (carries-out j v c b e g ∙ eq-eqb v v refl)
       (λ u l h. carries-out j u c b e g ∙ ne_eqb u v (λ z. omega arith))
 
-  pub goes-out_as : (k : ClaimKey) (b b' : Book) (c : Claim) → rules.carries b ≡ true → every (readable rules) b ≡ true → found_waiting k (find b k.0) ≡ Ok c → b' ≡ out k.0 (f.unit c.demand) b → Gone s f k b b' c
-  goes-out_as k b b' c e all g after =
-      let v = f.unit c.demand in
+  pub goes-out_as : (k : ClaimKey) (b b' : Book) (c : Claim) (u : ItemNumber) → rules.carries b ≡ true → every (readable rules) b ≡ true → found_waiting k (find b k.0) ≡ Ok c → u.0 ≡ f.unit c.demand → b' ≡ out k.0 u.0 b → Gone rules k b b' u
+  goes-out_as k b b' c u e all g is after =
       let w = waits_there k (find b k.0) c g in
       record {
-        carried = ap rules.carries after ∙ carries-out k.0 v c b e w.0 ∙ eq-eqb v v refl;
-        all_read = ap (every (readable rules)) after ∙ every-out (readable rules) k.0 v b (λ x. refl) ∙ all;
-        drawn = goes-out k rules b b' v c w.0 w.1 (drawn_is k.0 c b e w.0) after;
+        carried = ap rules.carries after ∙ carries-out k.0 u.0 c b e w.0 ∙ eq-eqb u.0 (f.unit c.demand) is;
+        all_read = ap (every (readable rules)) after ∙ every-out (readable rules) k.0 u.0 b (λ x. refl) ∙ all;
+        drawn = goes-out k rules b b' u.0 c w.0 w.1 (drawn_is k.0 c b e w.0 ∙ sym is) after;
       }
 
   pub fixed_laws : Laws rules

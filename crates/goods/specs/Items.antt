@@ -1,19 +1,18 @@
 -- Which items a book names with a claim more or less, and that named goods keep items apart.
-use Rattle.std.specs.Prelude.{◌≡◌, ℕ, zero, suc, ◌+◌, ◌<◌, ◌≤◌, Bool, true, false, not, ◌&&◌, ◌||◌, [], ◌∷◌, length, drop, Some, ◌==◌, ◌≢◌, nat_lt, slice_index_or, refl}
+use Rattle.std.specs.Prelude.{◌≡◌, ℕ, zero, suc, ◌<◌, ◌≤◌, Bool, true, false, not, ◌&&◌, ◌||◌, [], ◌∷◌, Some, ◌==◌, ◌≢◌, nat_lt, refl}
 use Rattle.std.proofs.Common.{sym, ap, ◌∙◌, arith}
-use Rattle.std.specs.List.{slice_get}
-use Rattle.std.proofs.lemmas.List.{at_drop_more, at_drop_all}
-use Rattle.std.proofs.lemmas.Bool.{and_parts, and_from, or_parts, or_from, or_left, not-true, not_from_false, eqb-true, eqb-false, eq-eqb, ne_eqb, leb-true, le-leb, cond_both}
+use Rattle.std.specs.List.{slice_get, list_any}
+use Rattle.std.proofs.lemmas.Bool.{and_parts, and_from, or_parts, or_from, not-true, not_from_false, eqb-true, eqb-false, eq-eqb, ne_eqb, leb-true, le-leb, cond_both}
 use Rattle.std.specs.Cmp.{both_ways}
 use Rattle.claims.specs.declared.Cause.TheVariants.{ItemTaken}
 use Rattle.claims.specs.declared.Claim.{Claim}
 use Rattle.claims.specs.Book.{Book, key_of, insert, without, sent, out, every}
+use Rattle.claims.specs.Limits.{most_goods}
 use Rattle.claims.proofs.Books.{every-without}
-use Rattle.goods.specs.NamedGoods.{item, names, distinct, in_stock, as_named, named_kind, named, ItemsRule}
-use Rattle.goods.specs.Shelves.{most_goods, one_number}
-use Rattle.goods.specs.Every.{and-true, every-find, every-nth, every_shows, every_with, every-out}
+use Rattle.goods.specs.NamedGoods.{item, names, distinct, in_stock, ItemsRule}
+use Rattle.shelf.specs.Shelves.{one_number}
+use Rattle.shelf.proofs.Every.{and-true, every-find, every-nth, every_shows, every_with, every-out}
 use Rattle.goods.specs.Fixed.{Fixed, carries_exactly}
-use Rattle.goods.specs.Shelving.{carries_says}
 
 or_swap : (p q r : Bool) → (q || (p || r)) ≡ (p || (q || r))
 or_swap true true r = refl
@@ -56,18 +55,8 @@ names_shows : (i : ℕ) (b : Book) → ((j : ℕ) (c : Claim) → slice_get b j 
 names_shows i [] h = refl
 names_shows i (x ∷ b) h = or_from (item x == i) (names i b) (ne_eqb (item x) i (h 0 x refl)) (names_shows i b (λ j c f. h (suc j) c f))
 
--- a look through the claims: past one that names another item, at one that names it, and at the end
-pub names_passed : (i j : ℕ) (d : Claim) (b : Book) → j < length b → (item (slice_index_or b j d) ≢ i) → names i (drop j b) ≡ names i (drop (j + 1) b)
-names_passed i j d b l ne = at_drop_more (names i) b j d l ∙ ap (λ (q : Bool). q || names i (drop (j + 1) b)) (ne_eqb (item (slice_index_or b j d)) i ne)
-
-pub names-here : (i j : ℕ) (d : Claim) (b : Book) → j < length b → item (slice_index_or b j d) ≡ i → names i (drop j b) ≡ true
-names-here i j d b l e = at_drop_more (names i) b j d l ∙ or_left (item (slice_index_or b j d) == i) (names i (drop (j + 1) b)) (eq-eqb (item (slice_index_or b j d)) i e)
-
-pub names_end : (i j : ℕ) (b : Book) → length b ≤ j → names i (drop j b) ≡ false
-names_end i j b l = at_drop_all (names i) b j l
-
 -- where no item is named twice, one claim more has to name another
-distinct_with : (x : Claim) (b : Book) → distinct b ≡ true → distinct (insert x b) ≡ not (names (item x) b)
+pub distinct_with : (x : Claim) (b : Book) → distinct b ≡ true → distinct (insert x b) ≡ not (names (item x) b)
 distinct_with x [] e = refl
 distinct_with x (c ∷ b) e =
     let p = and_parts (not (names (item c) b)) (distinct b) e in
@@ -134,12 +123,15 @@ apart s n small b =
           e.1 (record { few = h.few; sufficient = and_from (distinct b) (every (in_stock n) b) (distinct_shows b h.once) all; units = h.own })),
     )
 
--- where named goods are carried, one claim more has to name another item, and one of them
-pub fits_in : (s n : ℕ) (x : Claim) (b : Book) → (named s n).carries b ≡ true → (not (names (item x) b) && in_stock n x && as_named x) ≡ (named_kind n).enough (insert x b)
-fits_in s n x b e =
-    let p = and_parts (distinct b && every (in_stock n) b) (every as_named b) (carries_says s (named_kind n) b e).1 in
-    let q = and_parts (distinct b) (every (in_stock n) b) p.0 in
-    let one = distinct_with x b q.0 in
-    let two = every_with (in_stock n) x b q.1 in
-    let three = every_with as_named x b p.1 in
+-- where there are goods for a book, one claim more has to name another item, and one of them
+pub in_stock-insert : (n : ℕ) (x : Claim) (b : Book) → (distinct b && every (in_stock n) b) ≡ true → (not (names (item x) b) && in_stock n x) ≡ (distinct (insert x b) && every (in_stock n) (insert x b))
+in_stock-insert n x b e =
+    let p = and_parts (distinct b) (every (in_stock n) b) e in
+    let one = distinct_with x b p.0 in
+    let two = every_with (in_stock n) x b p.1 in
     cc
+
+-- some claim names an item if one of the list does
+pub names_any : (i : ℕ) (b : Book) → names i b ≡ list_any (λ c. item c == i) b
+names_any i [] = refl
+names_any i (c ∷ b) = ap (λ (q : Bool). (item c == i) || q) (names_any i b)

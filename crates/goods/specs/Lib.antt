@@ -1,10 +1,6 @@
-pub mod Shelves
-pub mod Asked
 pub mod Pooled
 pub mod NamedGoods
 pub mod Views
 pub mod Fixed
-pub mod Every
-pub mod Shelving
 pub mod Items
 pub mod Pools

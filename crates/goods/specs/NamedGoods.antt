@@ -5,10 +5,10 @@ use Rattle.claims.specs.declared.Cause.TheVariants.{ItemTaken}
 use Rattle.claims.specs.declared.Claim.{Claim}
 use Rattle.claims.specs.declared.ClaimState.TheVariants.{Out}
 use Rattle.claims.specs.declared.ItemNumber.{ItemNumber}
-use Rattle.claims.specs.Book.{Book, every}
-use Rattle.claims.specs.Limits.{most_claims}
+use Rattle.claims.specs.Book.{Book, waits_or_has, every}
+use Rattle.claims.specs.Limits.{most_claims, most_goods}
 use Rattle.claims.specs.Rules.{Rules}
-use Rattle.goods.specs.Shelves.{Kind, most_goods, one_number, waits_or_has, shelved}
+use Rattle.shelf.specs.Shelves.{Kind, one_number, shelved}
 
 -- the item that a claim names
 abbrev pub item : Claim → ℕ

@@ -5,10 +5,10 @@ use Rattle.claims.specs.declared.Cause.TheVariants.{PoolShort}
 use Rattle.claims.specs.declared.Claim.{Claim}
 use Rattle.claims.specs.declared.ClaimState.TheVariants.{Out}
 use Rattle.claims.specs.declared.ItemNumber.{ItemNumber}
-use Rattle.claims.specs.Book.{Book, every}
+use Rattle.claims.specs.Book.{Book, waits_or_has, every}
 use Rattle.claims.specs.Limits.{most_claims, most_units}
 use Rattle.claims.specs.Rules.{Rules}
-use Rattle.goods.specs.Shelves.{Kind, one_number, waits_or_has, shelved}
+use Rattle.shelf.specs.Shelves.{Kind, one_number, shelved}
 
 -- the quantities of all claims, waiting and out
 abbrev pub quantities : Book → ℕ

@@ -1,17 +1,18 @@
 -- What a pool's quantities are with a claim more or less, and that it keeps to the laws and to escrow.
-use Rattle.std.specs.Prelude.{◌≡◌, ℕ, ◌+◌, ◌-◌, ◌≤◌, Bool, true, false, cond, ◌&&◌, leb, [], ◌∷◌, Some, ◌==◌, nat_le, nat_lt, refl}
+use Rattle.std.specs.Prelude.{◌≡◌, ℕ, ◌+◌, ◌-◌, ◌≤◌, Bool, true, false, cond, leb, [], ◌∷◌, Some, ◌==◌, nat_le, nat_lt, refl}
 use Rattle.std.proofs.Common.{sym, ap, ◌∙◌, arith}
-use Rattle.std.proofs.lemmas.Bool.{and_parts, leb-true, le-leb, cond_both}
+use Rattle.std.specs.List.{sum_by}
+use Rattle.std.proofs.lemmas.List.Sums.{sum_by-cons}
+use Rattle.std.proofs.lemmas.Bool.{leb-true, le-leb, cond_both}
 use Rattle.std.specs.Cmp.{both_ways}
 use Rattle.claims.specs.declared.Cause.TheVariants.{PoolShort}
 use Rattle.claims.specs.declared.Claim.{Claim}
-use Rattle.claims.specs.Book.{Book, key_of, find, insert, without, sent, out, every}
+use Rattle.claims.specs.Book.{Book, key_of, find, insert, without, sent, out}
 use Rattle.claims.specs.Limits.{most_units}
-use Rattle.goods.specs.Pooled.{quantities, unnumbered, pool_kind, pool, EscrowRule}
-use Rattle.goods.specs.Shelves.{one_number}
-use Rattle.goods.specs.Every.{every_with}
+use Rattle.goods.specs.Pooled.{quantities, EscrowRule}
+use Rattle.shelf.specs.Shelves.{one_number}
 use Rattle.goods.specs.Fixed.{Fixed, carries_exactly}
-use Rattle.goods.specs.Shelving.{carries_says, one_number_says}
+use Rattle.shelf.proofs.Shelving.{one_number_says}
 
 pub quantities-insert : (x : Claim) (b : Book) → quantities (insert x b) ≡ x.demand.first + quantities b
 quantities-insert x [] = refl
@@ -60,14 +61,16 @@ escrow s n b =
       (λ h. e.1 (record { few = h.few; sufficient = le-leb (quantities b) n h.covered; units = h.alike })),
     )
 
--- where the pool is carried, one claim more has to fit into what is left
-pub fits_in : (s n used : ℕ) (x : Claim) (b : Book) → (pool s n).carries b ≡ true → used ≡ quantities b →
-    (nat_le x.demand.first (n - used) && unnumbered x) ≡ (pool_kind n).enough (insert x b)
-fits_in s n used x b e sum =
-    let p = and_parts (nat_le (quantities b) n) (every unnumbered b) (carries_says s (pool_kind n) b e).1 in
-    let top = leb-true (quantities b) n p.0 in
+-- a pool's quantities are a sum over its claims
+pub quantities_sum : (b : Book) → quantities b ≡ sum_by (λ c. c.demand.first) b
+quantities_sum [] = refl
+quantities_sum (c ∷ b) = ap (λ (n : ℕ). c.demand.first + n) (quantities_sum b) ∙ sym (sum_by-cons (λ (x : Claim). x.demand.first) c b)
+
+-- where a pool covers a book, one claim more has to fit into what is left
+pub covered-insert : (n used : ℕ) (x : Claim) (b : Book) → nat_le (quantities b) n ≡ true → used ≡ quantities b → nat_le x.demand.first (n - used) ≡ nat_le (quantities (insert x b)) n
+covered-insert n used x b e sum =
+    let top = leb-true (quantities b) n e in
     let more = quantities-insert x b in
-    let left : leb x.demand.first (n - used) ≡ leb (quantities (insert x b)) n = both_ways (leb x.demand.first (n - used)) (leb (quantities (insert x b)) n)
+    both_ways (leb x.demand.first (n - used)) (leb (quantities (insert x b)) n)
     (λ t. le-leb (quantities (insert x b)) n (let h = leb-true x.demand.first (n - used) t in omega arith))
-    (λ t. le-leb x.demand.first (n - used) (let h = leb-true (quantities (insert x b)) n t in omega arith)) in
-    ap (λ (q : Bool). q && unnumbered x) left ∙ ap (λ (q : Bool). nat_le (quantities (insert x b)) n && q) (sym (every_with unnumbered x b p.1))
+    (λ t. le-leb x.demand.first (n - used) (let h = leb-true (quantities (insert x b)) n t in omega arith))

@@ -2,19 +2,35 @@
 use Rattle.claims.specs.Book.{Book}
 use Rattle.claims.specs.Held.{claims_book}
 use Rattle.claims.specs.Rules.{Rules}
-use Rattle.goods.specs.declared.named.Named.{Named}
-use Rattle.goods.specs.declared.pool.Pool.{Pool}
+use Rattle.goods.specs.declared.goods.Goods.{Ghosts}
+use Rattle.goods.specs.declared.items.Items.{Items}
+use Rattle.goods.specs.declared.stock.Stock.{Stock}
+use Rattle.goods.specs.declared.units.Units.{Units}
+use Rattle.goods.specs.Items.{named-goods}
 use Rattle.goods.specs.NamedGoods.{named}
 use Rattle.goods.specs.Pooled.{pool}
+use Rattle.goods.specs.Pools.{pool-goods}
+
+abbrev pub units : Ghosts Units
+units = record { goods = λ u. pool-goods u.size }
+
+abbrev pub items : Ghosts Items
+items = record { goods = λ i. named-goods i.count i.sized }
+
+abbrev pub Pool : Type 0
+Pool = Stock Units units
+
+abbrev pub Named : Type 0
+Named = Stock Items items
 
 abbrev pub pool_rules : Pool → Rules
-pool_rules p = pool p.shelf p.size
+pool_rules p = pool p.shelf p.goods.size
 
 abbrev pub pool_book : Pool → Book
 pool_book p = claims_book p.claims
 
 abbrev pub named_rules : Named → Rules
-named_rules n = named n.shelf n.goods
+named_rules n = named n.shelf n.goods.count
 
 abbrev pub named_book : Named → Book
 named_book n = claims_book n.claims
