@@ -1,6 +1,3 @@
-pub mod Limits
-pub mod Rooms
-pub mod TeePlaces
 pub mod Lists
 pub mod Views
 pub mod Sends

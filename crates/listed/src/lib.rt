@@ -2,12 +2,14 @@
 #![tactic(auto)]
 
 pub use list::Listed;
-pub use room::{
-    ALL_FEATURES, BATH, DOGS, GROUND_FLOOR, QUIET_WING, Room, SHOWER, SUITE, TWIN_BEDS, VIEW,
+pub use matching::{
+    ALL_FEATURES, BATH, DOGS, GROUND_FLOOR, LAST_MINUTE, QUIET_WING, Room, SHOWER, SUITE,
+    TWIN_BEDS, TeePlace, VIEW,
 };
-pub use tee::{LAST_MINUTE, TeePlace};
 
+mod allotting;
 mod list;
 mod listing;
-mod room;
-mod tee;
+mod lots;
+#[cfg(test)]
+mod tests;

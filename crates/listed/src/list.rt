@@ -1,19 +1,24 @@
-ghost use Rattle.std.specs.Prelude.{◌≡◌, ◌≤◌, length, vec_len, vec_capacity};
+ghost use Rattle.std.specs.Prelude.{◌≡◌, ◌≤◌, length, true};
+ghost use Rattle.claims.specs.Book.{every};
 ghost use Rattle.claims.specs.Held.{claims_book};
-ghost use Rattle.claims.specs.Limits.{most_claims, most_goods};
+ghost use Rattle.claims.specs.Limits.{most_goods};
+ghost use Rattle.claims.specs.Rules.{readable};
+ghost use Rattle.matching.specs.Matching.{Matching};
+ghost use Rattle.listed.specs.Lists.{listed as listed_by};
 
-use claims::Claims;
+use crate::lots::Lots;
+use matching::Suits;
 
 // Goods that are not alike, such as rooms or tee places. Each claim has one of them for now, and may get another until
 // it goes out.
 #[derive(Drop)]
-pub struct Listed<G> {
+pub struct Listed<G: Suits> {
     pub(crate) shelf: u32,
     pub(crate) goods: Vec<G>,
-    pub(crate) claims: Claims,
-    // for each claim the place of its good in the list
-    pub(crate) allotment: Vec<usize>,
+    pub(crate) lots: Lots,
     ghost sized: { length goods.items ≤ most_goods },
-    ghost paired: { vec_len allotment ≡ length (claims_book claims) },
-    ghost roomy: { most_claims ≤ vec_capacity allotment },
+    // the goods that the claims have are a matching
+    pub ghost matched: { ∥ Matching G.Suits.suiting goods.items (claims_book lots.claims) lots.allotment.items ∥₁ },
+    // each claim is a party's, and its demand is read
+    pub ghost all_read: { every (readable (listed_by G.Suits.suiting G.Suits.formed shelf goods.items)) (claims_book lots.claims) ≡ true },
 }

@@ -1,5 +1,6 @@
 -- What carried books of listed goods keep to.
 use Rattle.std.proofs.Common.{◌≡◌, ℕ, zero, suc, ◌≤◌, Bool, true, false, cond, eqb, ◌⊎◌, List, [], ◌∷◌, length, get_or, set, Some, None, Option, sym, refl, ap, ◌∙◌, subst, inl, inr, ⊎_elim, arith, length-set}
+use Rattle.std.proofs.lemmas.Option.{slice_get_within}
 use Rattle.std.specs.List.{remove, slice_get}
 use Rattle.std.proofs.lemmas.Bool.{cases_eq, cond-true, cond-false}
 use Rattle.claims.specs.declared.Claim.{Claim}
@@ -9,7 +10,6 @@ use Rattle.claims.specs.declared.ItemNumber.{ItemNumber}
 use Rattle.claims.specs.Book.{Book, key_of, find, without, sent, out}
 use Rattle.claims.proofs.Books.{without_absent}
 use Rattle.matching.specs.Matching.{Matching, Serves, carried}
-use Rattle.matching.proofs.Passing.{nth-within}
 use Rattle.matching.proofs.Matchings.{carried_matching, matching_carried, matching_fewer}
 
 -- where the claim under a key stands, and what leaves or changes there
@@ -93,7 +93,7 @@ module _ {G : Type 0} (F : G → Demand → Bool) (goods : List G) where
       (λ (w : (c : Claim) × (find b k ≡ Some c)).
       let at = spot k b w.0 w.1 in
       let m = carried_matching F goods b e in
-      let l = nth-within b at.0 w.0 at.1.is in
+      let l = slice_get_within b at.0 w.0 at.1.is in
       subst (λ (r : Book). carried F goods r ≡ true) at.1.gone (matching_carried F goods (remove b at.0) (remove m.0 at.0) (matching_fewer F goods b m.0 at.0 l m.1)))
       (λ (n : find b k ≡ None). ap (carried F goods) (without_absent k b n) ∙ e)
       (found b k)
@@ -119,5 +119,5 @@ module _ {G : Type 0} (F : G → Demand → Bool) (goods : List G) where
   out_unit b k c i e f o =
       let w = out-serves b k c i e f o in
       let z = w.1 in
-      let l = nth-within goods w.0 w.2.suited.0 w.2.suited.1 in
+      let l = slice_get_within goods w.0 w.2.suited.0 w.2.suited.1 in
       (omega arith, omega arith)

@@ -1,12 +1,13 @@
 -- The definition by which claims are carried says whether there is a matching of them.
 use Rattle.std.proofs.Common.{◌≡◌, ℕ, zero, suc, ◌<◌, Bool, true, false, not, ◌&&◌, ◌||◌, eqb, List, [], ◌∷◌, length, get_or, Some, Decides, sym, refl, ap, subst, ⊎_elim, arith}
+use Rattle.std.proofs.lemmas.Option.{slice_get_within}
 use Rattle.std.specs.List.{slice_get}
 use Rattle.std.proofs.lemmas.Bool.{eq-eqb, eqb-true, false≢true, or_cases, or_left, or_right}
 use Rattle.std.proofs.lemmas.Bool.Decides.{Decides-and, Decides-at, Decides-below_or, Decides-like, Decides-not}
 use Rattle.claims.specs.declared.Claim.{Claim}
 use Rattle.claims.specs.declared.Demand.{Demand}
 use Rattle.matching.specs.Matching.{CoversRight, Matching, Serves, among, covers, serves, some_below}
-use Rattle.matching.proofs.Passing.{nth-within, serves_says, serves_shows}
+use Rattle.matching.proofs.Passing.{serves_says, serves_shows}
 
 or_is : (q y : Bool) → elim q as (λ _. Bool) [ true ↦ true | false ↦ y ] ≡ (q || y)
 or_is true y = refl
@@ -70,7 +71,7 @@ module _ {G : Type 0} (F : G → Demand → Bool) (goods : List G) where
   part taken c b (g ∷ al) m free =
       let s = m.served 0 c refl in (
         g,
-        nth-within goods g s.suited.0 s.suited.1,
+        slice_get_within goods g s.suited.0 s.suited.1,
         (
           (serves_shows F goods c g s, free 0 (omega arith)),
           (

@@ -1,14 +1,17 @@
 -- Matchings: by places and by claims, without a claim, and beside one.
-use Rattle.std.proofs.Common.{◌≡◌, ℕ, ◌<◌, ◌≤◌, Bool, true, false, List, length, get_or, set, Some, sym, ap, ◌∙◌, subst, ⊎_elim, arith}
+use Rattle.std.proofs.Common.{◌≡◌, ℕ, ◌<◌, ◌≤◌, Bool, true, false, List, length, get_or, set, Some, sym, ap, ◌∙◌, subst, arith}
+use Rattle.std.proofs.Math.Logic.{∥∥₁_elim}
+use Rattle.std.proofs.Props.{props}
+use Rattle.std.proofs.lemmas.Option.{slice_get_within}
 use Rattle.std.specs.List.{remove, insert, slice_get}
 use Rattle.std.proofs.lemmas.List.Edits.{length-remove}
-use Rattle.std.proofs.lemmas.Bool.{cases_Bool}
+use Rattle.std.proofs.lemmas.Bool.{false_from_ne_true}
 use Rattle.claims.specs.declared.Claim.{Claim}
 use Rattle.claims.specs.declared.Demand.{Demand}
 use Rattle.matching.specs.Matching.{Matching, Serves, carried, passes, serves}
 use Rattle.matching.specs.Paths.{Allots, all_but, all_of, fits}
 use Rattle.matching.proofs.Covers.{covers_right}
-use Rattle.matching.proofs.Passing.{nth-some, nth-within, serves_says, serves_shows}
+use Rattle.matching.proofs.Passing.{nth-some, serves_says, serves_shows}
 use Rattle.matching.proofs.Places.{getD_removed, nth_removed, removed_inserted, removed_set, skip, skip_apart, skip_less, skip_onto}
 
 module _ {G : Type 0} (F : G → Demand → Bool) (goods : List G) where
@@ -19,7 +22,7 @@ module _ {G : Type 0} (F : G → Demand → Bool) (goods : List G) where
   pub allots_matching : (b : List Claim) (al : List ℕ) → length al ≡ length b → Allots (fits F goods b) (all_of (length b)) al → Matching F goods b al
   allots_matching b al len a = record {
     whole = len;
-    served = λ i c is. serves_says F goods c (get_or al i 0) (sym (ap (passes (λ x. serves F goods x.demand x.state (get_or al i 0))) is) ∙ a.suit i (nth-within b i c is));
+    served = λ i c is. serves_says F goods c (get_or al i 0) (sym (ap (passes (λ x. serves F goods x.demand x.state (get_or al i 0))) is) ∙ a.suit i (slice_get_within b i c is));
     apart = a.apart;
   }
 
@@ -28,6 +31,13 @@ module _ {G : Type 0} (F : G → Demand → Bool) (goods : List G) where
     suit = λ i l. let w = nth-some b i l in fits_shows b i (get_or al i 0) w.0 w.1 (m.served i w.0 w.1);
     apart = m.apart;
   }
+
+  -- whether it is one is a plain fact, so that it is known where it is only known to be so
+  pub matching_settled : (b : List Claim) (al : List ℕ) → ∥ Matching F goods b al ∥₁ → Matching F goods b al
+  matching_settled b al m =
+      allots_matching b al
+      (∥∥₁_elim m (hlevel props) (λ w. w.whole))
+      (∥∥₁_elim m (hlevel props) (matching_allots b al))
 
   -- a matching of the others is an allotment of all but one
   pub others_allots : (b : List Claim) (al : List ℕ) (x : ℕ) → x < length b → Matching F goods (remove b x) (remove al x) → Allots (fits F goods b) (all_but (length b) x) al
@@ -78,8 +88,4 @@ module _ {G : Type 0} (F : G → Demand → Bool) (goods : List G) where
   carried_matching b e = (covers_right F goods b).0 e
 
   pub never_carried : (b : List Claim) → ((al : List ℕ) → Allots (fits F goods b) (all_of (length b)) al → ⊥) → carried F goods b ≡ false
-  never_carried b none =
-      ⊎_elim
-      (λ (y : carried F goods b ≡ true). absurd (let w = carried_matching b y in none w.0 (matching_allots b w.0 w.1)))
-      (λ (n : carried F goods b ≡ false). n)
-      (cases_Bool (carried F goods b))
+  never_carried b none = false_from_ne_true (carried F goods b) (λ y. let w = carried_matching b y in none w.0 (matching_allots b w.0 w.1))

@@ -1,9 +1,5 @@
--- The numbers that bound goods and what is asked of them, each named once.
+-- The numbers that bound what is asked of rooms and tee places, each named once.
 use Rattle.std.specs.Prelude.{ℕ}
-
--- as many goods as a list may have
-abbrev pub most_goods : ℕ
-most_goods = 256
 
 -- the set of all features of rooms
 abbrev pub all_features : ℕ

@@ -3,11 +3,11 @@ use Rattle.std.specs.Prelude.{◌≡◌, ℕ, zero, suc, ◌<◌, Bool, true, fa
 use Rattle.std.specs.List.{remove, slice_get}
 use Rattle.claims.specs.declared.Claim.{Claim}
 use Rattle.claims.specs.declared.ClaimState.{ClaimState}
-use Rattle.claims.specs.declared.ClaimState.TheVariants.{Waiting, Out}
+use Rattle.claims.specs.declared.ClaimState.TheVariants.{Out}
 use Rattle.claims.specs.declared.Demand.{Demand}
 use Rattle.claims.specs.declared.ItemNumber.{ItemNumber}
-use Rattle.claims.specs.Limits.{most_claims}
-use Rattle.matching.specs.Limits.{most_goods}
+use Rattle.claims.specs.Book.{waits_or_has}
+use Rattle.claims.specs.Limits.{most_claims, most_goods}
 
 -- the good at place g serves the claim c: it suits the claim's demand, and where the claim is out, it is the claim's own unit; the good at place 0 is unit 1
 pub record Serves {G : Type 0} (suits : G → Demand → Bool) (goods : List G) (c : Claim) (g : ℕ) : Type 0 where
@@ -25,14 +25,9 @@ abbrev pub passes : {X : Type 0} → (X → Bool) → Option X → Bool
 passes p None = false
 passes p (Some x) = p x
 
--- whether a claim in this state waits, or is out with the good at place g
-abbrev pub waits_or_has : ℕ → ClaimState → Bool
-waits_or_has g Waiting = true
-waits_or_has g (Out u) = u.0 == suc g
-
 -- whether the good at place g serves a claim of this demand in this state
 abbrev pub serves : {G : Type 0} → (G → Demand → Bool) → List G → Demand → ClaimState → ℕ → Bool
-serves suits goods d s g = waits_or_has g s && passes (λ good. suits good d) (slice_get goods g)
+serves suits goods d s g = waits_or_has (suc g) s && passes (λ good. suits good d) (slice_get goods g)
 
 -- some number below n passes a test
 abbrev pub some_below : ℕ → (ℕ → Bool) → Bool

@@ -2,6 +2,7 @@
 #![tactic(auto)]
 
 pub use admission::admit;
+pub use claims::MOST_GOODS;
 pub use room::{
     ALL_FEATURES, BATH, DOGS, GROUND_FLOOR, QUIET_WING, Room, SHOWER, SUITE, TWIN_BEDS, VIEW,
 };
@@ -15,9 +16,6 @@ mod room;
 mod sheet;
 mod suits;
 mod tee;
-
-// As many goods as a list may have.
-pub const MOST_GOODS: usize = 256;
-
 #[cfg(test)]
 mod tests;
+mod way;

@@ -3,7 +3,8 @@ ghost use Rattle.matching.specs.Rooms.{room_suits, room_formed};
 use crate::suits::Suits;
 use claims::Demand;
 
-// The features that a room may have, each with its number; a set of them is the sum of their numbers.
+// The features that a room may have, each with its number; a set of them is the sum of their numbers, since a demand
+// gives it as a number.
 pub const BATH: u8 = 1;
 
 pub const SHOWER: u8 = 2;
@@ -44,11 +45,11 @@ impl Suits for Room {
 
     fn suits(&self, demand: Demand) -> bool {
         let features = u32::from(self.features);
-        (demand.first & features == demand.first) & (demand.second & features == 0)
+        demand.first & features == demand.first && demand.second & features == 0
     }
 
     fn is_formed(demand: Demand) -> bool {
         let all = u32::from(ALL_FEATURES);
-        (demand.first <= all) & (demand.second <= all)
+        demand.first <= all && demand.second <= all
     }
 }

@@ -7,9 +7,7 @@ impl Drop for Sheet<'_> {
     fn drop(self)
         ensures { Blank self.exit.0.now }
     {
-        for mark in self.0.iter_mut() {
-            *mark = 0;
-        }
+        self.0.fill(0);
         let Sheet(_) = self;
     }
 }

@@ -19,10 +19,10 @@ impl Suits for TeePlace {
     ghost formed = { tee_formed };
 
     fn suits(&self, demand: Demand) -> bool {
-        (demand.first <= self.minute) & (self.minute <= demand.second)
+        (demand.first..=demand.second).contains(&self.minute)
     }
 
     fn is_formed(demand: Demand) -> bool {
-        (demand.first <= demand.second) & (demand.second <= LAST_MINUTE)
+        demand.first <= demand.second && demand.second <= LAST_MINUTE
     }
 }

@@ -1,66 +1,40 @@
--- The test is whether all is in bounds; the rest is what the path gives.
-use Rattle.std.proofs.Common.{ℕ, ◌+◌, Bool, List, length, sym, subst, arith}
-use Rattle.matching.specs.Paths.{Allots, Path, Queued, all_but, all_of, fits}
-use Rattle.matching.proofs.Admitting.{bounds_say, found, new_blank, not_found, out_of_bounds}
+-- The tests are whether all is in bounds; the rest is what the way gives.
+use Rattle.std.proofs.Common.{ℕ, Bool, List, length, subst}
+use Rattle.matching.specs.declared.way.Step.{Step}
+use Rattle.matching.specs.Paths.{Allots, Path, all_but, all_of, fits}
+use Rattle.matching.proofs.Admitting.{found, new_blank, not_found}
 use Rattle.matching.proofs.Covers.{covers_right}
 use Rattle.matching.proofs.Reaching.{shortage_none}
 use Rattle.matching.proofs.admission.admit.Goals as goal
 
-pub returns-then-not-few-allotment : goal.returns-then-not-few-allotment
-returns-then-not-few-allotment g c = record {
-  admits = out_of_bounds g.G.Suits.suiting c.args.goods.now c.args.claims.now c.args.new c.args.allotment.now c.if-not-few-allotment.true;
-  right = covers_right g.G.Suits.suiting c.args.goods.now c.args.claims.now;
-}
+pub returns-then-goods-gt-MOST_GOODS-clause-right : goal.returns-then-goods-gt-MOST_GOODS-clause-right
+returns-then-goods-gt-MOST_GOODS-clause-right g c = covers_right g.G.Suits.suiting c.args.goods.now c.args.claims.now
 
-pub reach-requires : goal.reach-requires
-reach-requires g c =
-    let p = bounds_say (length c.args.goods.now) (length c.args.claims.now) (length c.args.allotment.now) c.args.new c.if-not-few-allotment.false in
-    record {
-      few = p.0;
-      same = p.2;
-      one = p.3;
-      wide = p.0;
-      lined = p.1;
-      led = p.1;
-      clean = new_blank 256;
-    }
+pub returns-then-allotment-claims-clause-right : goal.returns-then-allotment-claims-clause-right
+returns-then-allotment-claims-clause-right g c = covers_right g.G.Suits.suiting c.args.goods.now c.args.claims.now
 
-pub flip-requires : goal.flip-requires
-flip-requires g c =
-    let p = bounds_say (length c.args.goods.now) (length c.args.claims.now) (length c.args.allotment.now) c.args.new c.if-not-few-allotment.false in
-    let w = c.in-Found.ensures.leads.reached in
-    let upto = w.upto in
-    record {
-      one = omega (arith, p.2, p.3);
-      lined = omega (arith, p.1, c.reach.auto.queue);
-      led = omega (arith, p.1, c.reach.auto.back);
-      queued = subst (λ (n : ℕ). Queued n c.args.new c.reach.new.queue c.reach.new.back (c.in-Found.place + 1)) (sym p.2) w.queued;
-    }
+pub reach-requires-clause-clean : goal.reach-requires-clause-clean
+reach-requires-clause-clean g c = new_blank 256
 
-pub returns-in-Found : goal.returns-in-Found
-returns-in-Found g c =
-    let F = g.G.Suits.suiting in
+pub returns-in-Ok-clause-right : goal.returns-in-Ok-clause-right
+returns-in-Ok-clause-right g c = covers_right g.G.Suits.suiting c.args.goods.now c.args.claims.now
+
+pub returns-in-Err-clause-right : goal.returns-in-Err-clause-right
+returns-in-Err-clause-right g c = covers_right g.G.Suits.suiting c.args.goods.now c.args.claims.now
+
+pub returns-in-Ok-clause-admits : goal.returns-in-Ok-clause-admits
+returns-in-Ok-clause-admits g c =
     let b = c.args.claims.now in
     let x : ℕ = c.args.new in
     let al : List ℕ = c.args.allotment.now in
     let after : List ℕ = c.flip.new.allotment in
-    let q : List ℕ = c.reach.new.queue in
-    let back : List ℕ = c.reach.new.back in
-    let fit : ℕ → ℕ → Bool = fits F c.args.goods.now b in
-    let p = bounds_say (length c.args.goods.now) (length b) (length al) x c.if-not-few-allotment.false in
-    record {
-      admits = found F c.args.goods.now b x al c.if-not-few-allotment.false after c.flip.auto.allotment
-          (λ a. subst (λ (n : ℕ). Path fit n x al q back c.in-Found.place c.in-Found.good → Allots fit (all_but n x) al → Allots fit (all_of n) after) p.2 (c.flip.ensures fit) c.in-Found.ensures.leads a);
-      right = covers_right F c.args.goods.now b;
-    }
+    let fit : ℕ → ℕ → Bool = fits g.G.Suits.suiting c.args.goods.now b in
+    found g.G.Suits.suiting c.args.goods.now b x al c.if-goods-gt-MOST_GOODS.false c.if-claims-gt-MOST_CLAIMS.false c.if-allotment-claims.false c.if-new-claims.false after c.flip.auto.allotment
+    (λ a. subst (λ (n : ℕ). Path fit n x al c.in-Ok.way.steps.items c.in-Ok.way.place c.in-Ok.way.good → Allots fit (all_but n x) al → Allots fit (all_of n) after) c.if-allotment-claims.false (c.flip.ensures fit) c.in-Ok.ensures.leads a)
 
-pub returns-in-Short : goal.returns-in-Short
-returns-in-Short g c =
-    let F = g.G.Suits.suiting in
+pub returns-in-Err-clause-admits : goal.returns-in-Err-clause-admits
+returns-in-Err-clause-admits g c =
     let b = c.args.claims.now in
-    let p = bounds_say (length c.args.goods.now) (length b) (length c.args.allotment.now) c.args.new c.if-not-few-allotment.false in
-    record {
-      admits = not_found F c.args.goods.now b c.args.new c.args.allotment.now c.if-not-few-allotment.false
-          (shortage_none (fits F c.args.goods.now b) (length b) c.args.new c.args.allotment.now c.reach.new.queue c.reach.new.back c.in-Short.reached p.3 c.in-Short.ensures.leads);
-      right = covers_right F c.args.goods.now b;
-    }
+    let q : List Step = c.in-Err.field-0.reached.items in
+    not_found g.G.Suits.suiting c.args.goods.now b c.args.new c.args.allotment.now c.if-goods-gt-MOST_GOODS.false c.if-claims-gt-MOST_CLAIMS.false c.if-allotment-claims.false c.if-new-claims.false
+    (shortage_none (fits g.G.Suits.suiting c.args.goods.now b) (length b) c.args.new c.args.allotment.now q (length q) c.if-new-claims.false c.in-Err.ensures.leads)

@@ -1,6 +1,6 @@
 -- The table is right for the claims up to here.
 use Rattle.std.proofs.Common.{◌≡◌, ℕ, ◌<◌, length, get_or, None}
-use Rattle.matching.specs.Limits.{most_goods}
+use Rattle.claims.specs.Limits.{most_goods}
 use Rattle.matching.proofs.Entering.{Entered}
 use Rattle.matching.proofs.reach.holders_of.Given as goal
 

@@ -1,151 +1,99 @@
 -- Each way of the loops is one of the lemmas on what they keep.
-use Rattle.std.proofs.Common.{◌≡◌, ℕ, ◌<◌, ◌≤◌, Bool, true, List, length, get_or, set, None, Option, refl, ap, ◌∙◌, subst, ⊎_elim, arith, length-set, rules}
+use Rattle.std.proofs.Common.{◌≡◌, ℕ, ◌+◌, ◌<◌, Bool, true, List, [], ◌∷◌, ◌++◌, length, get_or, set, Option, sym, refl, ap, ◌∙◌, subst, arith, length-set, length-append}
 use Rattle.std.specs.List.{slice_get}
-use Rattle.std.proofs.lemmas.List.{get_or-set_other}
-use Rattle.std.proofs.lemmas.Option.{slice_get-get_or}
-use Rattle.std.proofs.lemmas.Bool.{cases_lt}
-use Rattle.claims.specs.declared.Claim.{Claim}
-use Rattle.claims.specs.declared.ClaimState.TheVariants.{Waiting}
-use Rattle.matching.specs.Paths.{Holder, fits}
-use Rattle.matching.proofs.Passing.{open_before, open_none, open_some}
-use Rattle.matching.proofs.Reaching.{front_found, front_next, front_push, front_room, front_stuck, looked_push, queued_claim}
+use Rattle.std.proofs.lemmas.List.{get_or_append_left}
+use Rattle.std.proofs.lemmas.Bool.{false≢true}
+use Rattle.matching.specs.declared.way.Step.{Step}
+use Rattle.matching.specs.Paths.{Holder, fits, step_at}
+use Rattle.matching.proofs.Entering.{unheld}
+use Rattle.matching.proofs.Passing.{fits-within, fits_read}
+use Rattle.matching.proofs.Reaching.{Front, Looked, front_found, front_next, front_push, front_room, looked_past, looked_push, plain}
 use Rattle.matching.proofs.reach.reach.Given.{Over}
 use Rattle.matching.proofs.reach.reach.Goals as goal
+use Rattle.matching.proofs.reach.reach.Goals.{In-Some-holders, then-sheet-good-ne0-via-then-sheet-good-ne0, then-sheet-good-ne0-via-else-sheet-good-ne0+then-not-serves}
 
--- what is read past the end of a slice of claims
-abbrev plain : Claim
-plain = record { key = record { 0 = 0 }; party = record { 0 = 0 }; demand = record { shelf = 0; first = 0; second = 0 }; state = Waiting }
+-- what is known where a claim has the good that is open
+record Pushing (fit : ℕ → ℕ → Bool) (n x : ℕ) (al marks : List ℕ) (i good h : ℕ) : Type 0 where
+  suits : fit good i ≡ true
+  unmarked : get_or marks good 0 ≡ 0
+  below : h < n
+  other : h ≡ x → ⊥
+  has : get_or al h 0 ≡ good
 
--- the good that is open to the claim at the head
-opened : (g : Over) (c : goal.In-Some g) → (fits g.G.Suits.suiting c.args.goods.now c.args.claims.now c.in-Some.good (get_or c.loop-good.queue c.loop-head.head 0) ≡ true) × (get_or c.loop-good.sheet.0.now c.in-Some.good 0 ≡ 0) × (c.in-Some.good < length c.args.goods.now)
-opened g c =
-    open_some g.G.Suits.suiting c.args.goods.now c.args.claims.now c.loop-good.sheet.0.now (get_or c.loop-good.queue c.loop-head.head 0) c.loop-good.from
-    (get_or c.args.claims.now (get_or c.loop-head.queue c.loop-head.head 0) plain) c.loop-good.invariant.2 c.in-Some.good c.in-Some.ensures
+pushing : (g : Over) (c : goal.In-Some-holders g) → Pushing (fits g.G.Suits.suiting c.args.goods.now c.args.claims.now) (length c.args.claims.now) c.args.new c.args.allotment.now c.loop-good.sheet.0.now (step_at c.loop-good.steps.items c.loop-step.from).claim c.loop-good.good c.in-Some-holders.claim
+pushing g c =
+    let good : ℕ = c.loop-good.good in
+    let table = c.holders_of-holders.ensures in
+    let w = subst (λ (v : Option ℕ). Holder c.args.allotment.now c.args.new good v) c.in-Some-holders.is (table.each good (omega (arith, c.loop-good-test.true, c.requires.few, table.wide))) in
+    record {
+      suits = fits_read g.G.Suits.suiting c.args.goods.now c.args.claims.now _ _ c.loop-good.invariant.2 good c.index-goods-good.result c.serves.result c.loop-good-test.true c.index-goods-good.is c.serves.ensures ∙ c.if-not-serves.false;
+      unmarked = c.if-sheet-good-ne0.false;
+      below = omega (arith, w.0, c.requires.same);
+      other = w.1;
+      has = w.2;
+    }
 
-pub loop-good-init : goal.loop-good-init
-loop-good-init g c =
-    let f = c.loop-head.invariant.0 in
-    let l = queued_claim _ _ _ _ _ _ f.reached.queued c.requires.one c.loop-head-test.true in (
-      f,
-      c.loop-head-test.true,
-      slice_get-get_or c.args.claims.now (get_or c.loop-head.queue c.loop-head.head 0) plain l,
-      (λ k b. absurd (omega arith)),
-      c.loop-head.invariant.1,
+pub loop-good-preserved-then-sheet-good-ne0 : goal.loop-good-preserved-then-sheet-good-ne0
+loop-good-preserved-then-sheet-good-ne0 g c =
+    let inv = c.loop-good.invariant in (
+      inv.0,
+      inv.1,
+      inv.2,
+      looked_past (fits g.G.Suits.suiting c.args.goods.now c.args.claims.now) c.loop-good.sheet.0.now (step_at c.loop-good.steps.items c.loop-step.from).claim c.loop-good.good inv.3
+          (λ y z. elim c.then-sheet-good-ne0.branch [
+            | then-sheet-good-ne0-via-then-sheet-good-ne0 w ↦ w.if-sheet-good-ne0.true z
+            | then-sheet-good-ne0-via-else-sheet-good-ne0+then-not-serves w ↦
+                false≢true (sym w.if-not-serves.true ∙ sym (fits_read g.G.Suits.suiting c.args.goods.now c.args.claims.now _ _ inv.2 c.loop-good.good c.index-goods-good.result w.serves.result c.loop-good-test.true c.index-goods-good.is w.serves.ensures) ∙ y)
+          ]),
+      inv.4,
       refl,
     )
 
-pub offset_bounds-holders-good : goal.offset_bounds-holders-good
-offset_bounds-holders-good g c = let l : c.in-Some.good < 256 = omega (arith, (opened g c).2, c.requires.few) in search rules
+pub returns-in_default-holders-clause-leads : goal.returns-in_default-holders-clause-leads
+returns-in_default-holders-clause-leads g c =
+    let good : ℕ = c.loop-good.good in
+    let free = c.holders_of-holders.ensures.each c.loop-good.good (omega (arith, c.loop-good-test.true, c.requires.few, c.holders_of-holders.ensures.wide)) in
+    front_found _ _ _ _ _ _ _ _ c.loop-good.invariant.0 c.loop-good.invariant.1 good
+    (fits_read g.G.Suits.suiting c.args.goods.now c.args.claims.now _ _ c.loop-good.invariant.2 good c.index-goods-good.result c.serves.result c.loop-good-test.true c.index-goods-good.is c.serves.ensures ∙ c.if-not-serves.false)
+    (λ i b. unheld c.args.allotment.now c.args.new good _ c.in_default-holders.not-Some free i (omega (arith, c.requires.same)))
 
-pub bounds : goal.bounds
-bounds g c = omega (arith, (opened g c).2, c.requires.few)
-
-pub bounds-holders-good : goal.bounds-holders-good
-bounds-holders-good g c =
-    let o = open_some g.G.Suits.suiting c.args.goods.now c.args.claims.now c.loop-good.sheet.0.now (get_or c.loop-good.queue c.loop-head.head 0) c.loop-good.from
-    (get_or c.args.claims.now (get_or c.loop-head.queue c.loop-head.head 0) plain) c.loop-good.invariant.2 c.in-Some.good c.in-Some.ensures in
-    omega (arith, o.2, c.requires.few)
-
-pub returns-in-None : goal.returns-in-None
-returns-in-None g c =
-    let good : ℕ = c.in-Some.good in
-    let o = open_some g.G.Suits.suiting c.args.goods.now c.args.claims.now c.loop-good.sheet.0.now (get_or c.loop-good.queue c.loop-head.head 0) c.loop-good.from
-    (get_or c.args.claims.now (get_or c.loop-head.queue c.loop-head.head 0) plain) c.loop-good.invariant.2 good c.in-Some.ensures in
-    let table = c.holders_of-holders.ensures in
-    let e : get_or c.holders_of-holders.result good None ≡ None = c.in-None.is in
-    let free = subst (λ (v : Option ℕ). Holder c.args.allotment.now c.args.new good v) e (table.each good (omega (arith, o.2, c.requires.few, table.wide))) in
-    record {
-      leads = front_found _ _ _ _ _ _ _ _ _ c.loop-good.invariant.0 c.loop-good.invariant.1 good o.0 (λ i b. free i (omega (arith, c.requires.same)));
-      wiped = λ k. let n = c.loop-good.invariant.5 ∙ c.loop-head.invariant.2 in let d = c.drop-sheet.ensures k in search rules;
-    }
-
--- what is known where a claim has the good that is open
-pub record Pushing (fit : ℕ → ℕ → Bool) (goods n x : ℕ) (al marks : List ℕ) (i good h tail : ℕ) : Type 0 where
-  pub suits : fit good i ≡ true
-  pub unmarked : get_or marks good 0 ≡ 0
-  pub within : good < goods
-  pub few : good < 256
-  pub below : h < n
-  pub other : h ≡ x → ⊥
-  pub has : get_or al h 0 ≡ good
-  pub room : tail < n
-
-pushing : (g : Over) (c : goal.In-Some-holders g) → Pushing (fits g.G.Suits.suiting c.args.goods.now c.args.claims.now) (length c.args.goods.now) (length c.args.claims.now) c.args.new c.args.allotment.now c.loop-good.sheet.0.now (get_or c.loop-good.queue c.loop-head.head 0) c.in-Some.good c.in-Some-holders.holder c.loop-good.tail
-pushing g c =
-    let good : ℕ = c.in-Some.good in
-    let h : ℕ = c.in-Some-holders.holder in
-    let o = open_some g.G.Suits.suiting c.args.goods.now c.args.claims.now c.loop-good.sheet.0.now (get_or c.loop-good.queue c.loop-head.head 0) c.loop-good.from
-    (get_or c.args.claims.now (get_or c.loop-head.queue c.loop-head.head 0) plain) c.loop-good.invariant.2 good c.in-Some.ensures in
-    let table = c.holders_of-holders.ensures in
-    let w = subst (λ (v : Option ℕ). Holder c.args.allotment.now c.args.new good v) c.in-Some-holders.is (table.each good (omega (arith, o.2, c.requires.few, table.wide))) in
-    let below : c.in-Some-holders.holder < length c.args.claims.now = omega (arith, w.0, c.requires.same) in
-    record {
-      suits = o.0;
-      unmarked = o.1;
-      within = o.2;
-      few = omega (arith, o.2, c.requires.few);
-      below = below;
-      other = w.1;
-      has = w.2;
-      room = front_room _ _ _ _ _ _ _ _ _ c.loop-good.invariant.0 c.loop-good.invariant.1 good h o.0 o.1 c.requires.one below w.1 w.2;
-    }
-
-pub bounds-sheet-good : goal.bounds-sheet-good
-bounds-sheet-good g c = omega (arith, (pushing g c).within, c.loop-good.invariant.4)
-
-pub bounds-queue-tail : goal.bounds-queue-tail
-bounds-queue-tail g c = omega (arith, (pushing g c).room, c.requires.lined, c.loop-good.auto.queue, c.loop-head.auto.queue, length-set c.args.queue.now 0 c.args.new)
-
-pub bounds-back-tail : goal.bounds-back-tail
-bounds-back-tail g c = omega (arith, (pushing g c).room, c.requires.led, c.loop-good.auto.back, c.loop-head.auto.back)
-
-pub overflow_add-from : goal.overflow_add-from
-overflow_add-from g c = let l = (pushing g c).few in search rules
-
-pub loop-good-smaller : goal.loop-good-smaller
-loop-good-smaller g c = let l = (pushing g c).within in let m = c.in-Some.ensures.0 in omega arith
+pub push-requires-in-loop-good : goal.push-requires-in-loop-good
+push-requires-in-loop-good g c =
+    let w = pushing g (goal.at.push-requires-in-loop-good g c).In-Some-holders in
+    let room = front_room _ _ _ _ _ _ _ _ c.loop-good.invariant.0 c.loop-good.invariant.1 c.loop-good.good c.in-Some-holders.claim w.suits w.unmarked c.requires.one w.below w.other w.has in
+    (omega arith, omega (arith, room, c.requires.crowd))
 
 pub loop-good-preserved : goal.loop-good-preserved
 loop-good-preserved g c =
-    let F = g.G.Suits.suiting in
-    let good : ℕ = c.in-Some.good in
-    let head : ℕ = c.loop-head.head in
-    let tail : ℕ = c.loop-good.tail in
-    let q : List ℕ = c.loop-good.queue in
+    let w = pushing g (goal.at.loop-good-preserved g c).In-Some-holders in
+    let fit : ℕ → ℕ → Bool = fits g.G.Suits.suiting c.args.goods.now c.args.claims.now in
+    let n : ℕ = length c.args.claims.now in
+    let x : ℕ = c.args.new in
+    let al : List ℕ = c.args.allotment.now in
+    let good : ℕ = c.loop-good.good in
+    let head : ℕ = c.loop-step.from in
+    let q : List Step = c.loop-good.steps.items in
     let marks : List ℕ = c.loop-good.sheet.0.now in
-    let w = pushing g c in
-    let more : head < tail = c.loop-good.invariant.1 in
-    let ql : tail < length q = omega (arith, w.room, c.requires.lined, c.loop-good.auto.queue, c.loop-head.auto.queue, length-set c.args.queue.now 0 c.args.new) in
-    let bl : tail < length c.loop-good.back = omega (arith, w.room, c.requires.led, c.loop-good.auto.back, c.loop-head.auto.back) in
-    let ol : good < length marks = omega (arith, w.within, c.loop-good.invariant.4) in
-    let same : get_or (set q tail c.in-Some-holders.holder) head 0 ≡ get_or q head 0 = get_or-set_other q tail head c.in-Some-holders.holder 0 (λ e. omega arith) in (
-      front_push _ _ _ _ _ _ _ _ _ c.loop-good.invariant.0 more good c.in-Some-holders.holder w.suits w.unmarked c.requires.one w.below w.other w.has ql bl ol,
-      omega arith,
-      ap (slice_get c.args.claims.now) same ∙ c.loop-good.invariant.2,
-      (λ k b y. looked_push (fits F c.args.goods.now c.args.claims.now) marks (get_or q head 0) c.loop-good.from good ol c.loop-good.invariant.3
-          (open_before F c.args.goods.now c.args.claims.now marks (get_or q head 0) c.loop-good.from
-          (get_or c.args.claims.now (get_or c.loop-head.queue head 0) plain) c.loop-good.invariant.2 good c.in-Some.ensures)
-          k b (subst (λ (v : ℕ). fits F c.args.goods.now c.args.claims.now k v ≡ true) same y)),
+    let step : Step = record { claim = c.in-Some-holders.claim; from = c.loop-step.from } in
+    let items = c.push-in-loop-good.ensures.items in
+    let more = c.loop-good.invariant.1 in
+    let ol : good < length marks = omega (arith, c.loop-good-test.true, c.loop-good.invariant.4) in
+    let same : step_at c.push-in-loop-good.new.self.items c.loop-step.from ≡ step_at c.loop-good.steps.items c.loop-step.from = ap (λ (y : List Step). step_at y head) items ∙ get_or_append_left q (step ∷ []) plain head more in
+    let long : length (q ++ step ∷ []) ≡ length q + 1 = length-append q (step ∷ []) in (
+      subst (λ (y : List Step). Front fit n x al y (set marks good 1) head (length y)) (sym items)
+          (subst (λ (k : ℕ). Front fit n x al (q ++ step ∷ []) (set marks good 1) head k) (sym long)
+          (front_push _ _ _ _ _ _ _ _ c.loop-good.invariant.0 more good c.in-Some-holders.claim w.suits w.unmarked c.requires.one w.below w.other w.has refl ol)),
+      omega (arith, more, c.push-in-loop-good.ensures.len),
+      ap (λ (v : Step). slice_get c.args.claims.now v.claim) same ∙ c.loop-good.invariant.2,
+      subst (λ (v : Step). Looked fit (set marks good 1) v.claim (good + 1)) (sym same) (looked_push fit marks (step_at q head).claim good ol c.loop-good.invariant.3),
       omega (arith, c.loop-good.invariant.4, length-set marks good 1),
-      c.loop-good.invariant.5,
+      refl,
     )
 
-pub loop-head-preserved : goal.loop-head-preserved
-loop-head-preserved g c =
-    let f = c.loop-good.invariant.0 in (
-      front_next _ _ _ _ _ _ _ _ _ f c.loop-good.invariant.1
-          (λ k y. ⊎_elim
-          (λ (b : k < c.loop-good.from). c.loop-good.invariant.3 k b y)
-          (λ (b : c.loop-good.from ≤ k).
-          open_none g.G.Suits.suiting c.args.goods.now c.args.claims.now c.loop-good.sheet.0.now (get_or c.loop-good.queue c.loop-head.head 0) c.loop-good.from
-          (get_or c.args.claims.now (get_or c.loop-head.queue c.loop-head.head 0) plain) c.loop-good.invariant.2 c.in_default.ensures k b y)
-          (cases_lt k c.loop-good.from)),
-      c.loop-good.invariant.4,
-      c.loop-good.invariant.5 ∙ c.loop-head.invariant.2,
-    )
-
-pub returns : goal.returns
-returns g c = record {
-  leads = front_stuck _ _ _ _ _ _ _ _ _ c.loop-head.invariant.0 c.loop-head-test.false;
-  wiped = λ k. let n = c.loop-head.invariant.2 in let d = c.drop-sheet-2.ensures k in search rules;
-}
+pub loop-step-preserved : goal.loop-step-preserved
+loop-step-preserved g c = (
+  front_next _ _ _ _ _ _ _ _ c.loop-good.invariant.0 c.loop-good.invariant.1
+      (λ k y. c.loop-good.invariant.3 k (let l = fits-within g.G.Suits.suiting c.args.goods.now c.args.claims.now _ _ c.loop-good.invariant.2 k y in omega (arith, c.loop-good-test.false)) y),
+  c.loop-good.invariant.4,
+  refl,
+)

@@ -1,25 +1,22 @@
--- The claims in the queue are reached, and the sheet has their goods.
-use Rattle.std.proofs.Common.{◌≡◌, ◌-◌, ◌<◌, ◌≤◌, length, get_or, Some}
+-- The claims among the steps are reached, and the sheet has their goods.
+use Rattle.std.proofs.Common.{◌≡◌, ◌-◌, ◌<◌, ◌≤◌, length, Some}
 use Rattle.std.specs.List.{slice_get}
-use Rattle.matching.specs.Paths.{fits}
+use Rattle.matching.specs.Paths.{fits, step_at}
 use Rattle.matching.proofs.Reaching.{Front, Looked}
 use Rattle.matching.proofs.reach.reach.Given as goal
 
-abbrev pub invariant-loop-head : goal.invariant-loop-head
-invariant-loop-head g l =
-    Front (fits g.G.Suits.suiting l.goods l.claims) (length l.claims) l.new l.allotment l.queue l.back l.sheet.0.now l.head l.tail ×
+abbrev pub invariant-loop-step : goal.invariant-loop-step
+invariant-loop-step g l =
+    Front (fits g.G.Suits.suiting l.goods l.claims) (length l.claims) l.new l.allotment l.steps.items l.sheet.0.now l.from (length l.steps.items) ×
     (length l.goods ≤ length l.sheet.0.now) × (l.sheet.0.ghost_name ≡ l.initial.sheet.0.ghost_name)
 
-abbrev pub decreases-loop-head : goal.decreases-loop-head
-decreases-loop-head g l = length l.claims - l.head
+abbrev pub decreases-loop-step : goal.decreases-loop-step
+decreases-loop-step g l = length l.claims - l.from
 
 abbrev pub invariant-loop-good : goal.invariant-loop-good
 invariant-loop-good g l =
-    Front (fits g.G.Suits.suiting l.goods l.claims) (length l.claims) l.new l.allotment l.queue l.back l.sheet.0.now l.head l.tail ×
-    (l.head < l.tail) ×
-    (slice_get l.claims (get_or l.queue l.head 0) ≡ Some l.claim) ×
-    Looked (fits g.G.Suits.suiting l.goods l.claims) l.sheet.0.now (get_or l.queue l.head 0) l.from ×
+    Front (fits g.G.Suits.suiting l.goods l.claims) (length l.claims) l.new l.allotment l.steps.items l.sheet.0.now l.from (length l.steps.items) ×
+    (l.from < length l.steps.items) ×
+    (slice_get l.claims (step_at l.steps.items l.from).claim ≡ Some l.asking) ×
+    Looked (fits g.G.Suits.suiting l.goods l.claims) l.sheet.0.now (step_at l.steps.items l.from).claim l.good ×
     (length l.goods ≤ length l.sheet.0.now) × (l.sheet.0.ghost_name ≡ l.initial.sheet.0.ghost_name)
-
-abbrev pub decreases-loop-good : goal.decreases-loop-good
-decreases-loop-good g l = length l.goods - l.from
