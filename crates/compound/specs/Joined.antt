@@ -1,21 +1,13 @@
 -- What two resources mean together, where the shelf of a claim says which of them takes it.
-use Rattle.std.specs.Prelude.{◌≡◌, ℕ, ◌+◌, ◌≤◌, Bool, true, cond, not, ◌&&◌, length, nat_le}
-use Rattle.claims.specs.declared.Claim.{Claim}
+use Rattle.std.specs.Prelude.{◌≡◌, ℕ, ◌≤◌, true, cond, ◌&&◌, length, nat_le}
 use Rattle.claims.specs.declared.Cause.TheVariants.{TooManyClaims}
-use Rattle.claims.specs.Book.{Book, kept, every, apart, merge}
+use Rattle.claims.specs.Book.{Book, kept, merge}
 use Rattle.claims.specs.Limits.{most_claims}
 use Rattle.claims.specs.Rules.{Rules}
 use Rattle.resource.specs.declared.Resource.{Ghosts}
 use Rattle.compound.specs.declared.bank.Bank.{Bank}
+use Rattle.compound.specs.Sides.{low, high}
 use Rattle.compound.specs.Opened.{opened, open_book}
-
--- whether a claim is for the first side: it is of the shelf s or of one below
-abbrev pub low : ℕ → Claim → Bool
-low s c = nat_le c.demand.shelf s
-
--- whether it is for the second
-abbrev pub high : ℕ → Claim → Bool
-high s c = not (low s c)
 
 -- the rules of the two together
 abbrev pub joined : ℕ → Rules → Rules → Rules
@@ -32,25 +24,14 @@ pub record CarriedByBoth (s : ℕ) (p q : Rules) (b : Book) : Type 0 where
   pub first : p.carries (kept (low s) b) ≡ true
   pub second : q.carries (kept (high s) b) ≡ true
 
--- what holds of the books of the two sides: each has its own claims, under other keys, and together they are few
-pub record Sides (s : ℕ) (a b : Book) : Type 0 where
-  pub lows : every (low s) a ≡ true
-  pub highs : every (high s) b ≡ true
-  pub distinct : apart a b ≡ true
-  pub room : length a + length b ≤ most_claims
-
 -- the rules of a bank
-abbrev pub bank_rules : {F S : Type 0} → Ghosts F → Ghosts S → Bank F S → Rules
-bank_rules f t b = opened b.«open» (joined b.split (f.rules b.first) (t.rules b.second))
+abbrev pub bank_rules : {F S : Type 0} → (f : Ghosts F) → (t : Ghosts S) → Bank F S f t → Rules
+bank_rules f t b = opened b.is_open (joined b.split (f.rules b.first) (t.rules b.second))
 
 -- its book: the claims of both sides
-abbrev pub bank_book : {F S : Type 0} → Ghosts F → Ghosts S → Bank F S → Book
-bank_book f t b = open_book b.«open» (merge (f.book b.first) (t.book b.second))
-
--- what holds of it between calls
-abbrev pub BankSound : {F S : Type 0} → Ghosts F → Ghosts S → Bank F S → Type 0
-BankSound f t b = f.sound b.first × t.sound b.second × (b.«open» ≡ true → Sides b.split (f.book b.first) (t.book b.second))
+abbrev pub bank_book : {F S : Type 0} → (f : Ghosts F) → (t : Ghosts S) → Bank F S f t → Book
+bank_book f t b = open_book b.is_open (merge (f.book b.first) (t.book b.second))
 
 -- a bank as a resource
-abbrev pub bank : {F S : Type 0} → Ghosts F → Ghosts S → Ghosts (Bank F S)
-bank f t = record { rules = bank_rules f t; book = bank_book f t; sound = BankSound f t }
+abbrev pub bank : {F S : Type 0} → (f : Ghosts F) → (t : Ghosts S) → Ghosts (Bank F S f t)
+bank f t = record { rules = bank_rules f t; book = bank_book f t }

@@ -1,27 +1,23 @@
 -- What the rules of two resources together keep to, from what those of each keep to.
-use Rattle.std.specs.Prelude.{◌≡◌, ℕ, ◌≤◌, Bool, true, false, cond, not, ◌&&◌, leb, [], ◌∷◌, length, Some, None, Decides, nat_le, refl}
+use Rattle.std.specs.Prelude.{◌≡◌, ℕ, ◌≤◌, true, false, cond, not, ◌&&◌, [], length, Decides, nat_le, refl}
 use Rattle.std.proofs.Common.{ap, ◌∙◌, ⊎_elim, arith}
-use Rattle.std.proofs.lemmas.Bool.{cases_Bool, leb-true, le-leb, lt-leb, and_parts, and_from}
+use Rattle.std.proofs.lemmas.Bool.{cases_Bool, leb-true, le-leb}
 use Rattle.std.proofs.lemmas.Bool.Decides.{Decides-and, Decides-like}
-use Rattle.claims.specs.declared.Cause.TheVariants.{TooManyClaims}
-use Rattle.claims.specs.declared.Claim.{Claim}
-use Rattle.claims.specs.Book.{Book, key_of, find, insert, without, out, kept, merge}
+use Rattle.claims.specs.Book.{Book, without, out, kept}
 use Rattle.claims.specs.Limits.{most_claims, last_shelf, most_units}
-use Rattle.claims.specs.Rules.{Rules, Laws, is_party, refusal}
-use Rattle.claims.proofs.Books.{rising-kept, length_without, length-out, length-insert, length-merge, kept-without, kept_out, out_absent, find-kept_in, find-kept-out}
-use Rattle.compound.specs.Joined.{low, high, joined, CarriedByBoth}
+use Rattle.claims.specs.Rules.{Rules, Laws}
+use Rattle.claims.proofs.Books.{rising-kept, length_without, length-out, kept-without, kept_out, out_absent, find-kept_in, find-kept-out}
+use Rattle.compound.specs.Sides.{low, high}
+use Rattle.compound.specs.Joined.{joined, CarriedByBoth}
 
 -- which books the two carry
 pub joined-carries : (s : ℕ) (p q : Rules) (b : Book) → Decides ((joined s p q).carries b) (CarriedByBoth s p q b)
-joined-carries s p q b = (
-  λ h.
-      let x = and_parts (nat_le (length b) most_claims) (p.carries (kept (low s) b) && q.carries (kept (high s) b)) h in
-      let y = and_parts (p.carries (kept (low s) b)) (q.carries (kept (high s) b)) x.1 in
-      record { few = leb-true (length b) most_claims x.0; first = y.0; second = y.1 },
-  λ h.
-      and_from (nat_le (length b) most_claims) (p.carries (kept (low s) b) && q.carries (kept (high s) b)) (le-leb (length b) most_claims h.few)
-      (and_from (p.carries (kept (low s) b)) (q.carries (kept (high s) b)) h.first h.second),
-)
+joined-carries s p q b =
+    Decides-like ((joined s p q).carries b)
+    (λ h. record { few = h.0; first = h.1.0; second = h.1.1 })
+    (λ h. (h.few, (h.first, h.second)))
+    (Decides-and (nat_le (length b) most_claims) (p.carries (kept (low s) b) && q.carries (kept (high s) b)) (leb-true _ _, le-leb _ _)
+    (Decides-and (p.carries (kept (low s) b)) (q.carries (kept (high s) b)) (λ e. e, λ e. e) (λ e. e, λ e. e)))
 
 pub joined_laws : (s : ℕ) (p q : Rules) → Laws p → Laws q → Laws (joined s p q)
 joined_laws s p q lp lq = record {
@@ -62,21 +58,3 @@ joined_laws s p q lp lq = record {
   amounts = λ d. elim (nat_le d.shelf s) as (λ t. cond t (p.reads d) (q.reads d) ≡ true → (1 ≤ cond t (p.counts d) (q.counts d)) × (cond t (p.counts d) (q.counts d) ≤ most_units)) [ true ↦ lp.amounts d | false ↦ lq.amounts d ];
   nothing = λ d. elim (nat_le d.shelf s) as (λ t. cond t (p.reads d) (q.reads d) ≡ false → cond t (p.counts d) (q.counts d) ≡ 0) [ true ↦ lp.nothing d | false ↦ lq.nothing d ];
 }
-
--- no room in the whole
-pub refusal_full : (s : ℕ) (p q : Rules) (m : Book) (x : Claim) → (is_party x.party && (joined s p q).reads x.demand) ≡ true → find m (key_of x) ≡ None → most_claims ≤ length m → refusal (joined s p q) m x ≡ Some TooManyClaims
-refusal_full s p q m x r n full =
-    let over : leb (length (insert x m)) most_claims ≡ false = lt-leb (length (insert x m)) most_claims (omega (arith, length-insert x m)) in
-    simp (r, n, over)
-
--- two sides that both have no claims, and only those, are together without claims
-pub decides_neither : (x y : Bool) (a b : Book) → Decides x (a ≡ []) → Decides y (b ≡ []) → Decides (x && y) (merge a b ≡ [])
-decides_neither x y a b p q =
-    Decides-like (x && y)
-    (λ h. ap (λ (z : Book). merge z b) h.0 ∙ h.1)
-    (λ h. let n : length (merge a b) ≡ 0 = ap length h in let m = length-merge a b in (none_of a (omega arith), none_of b (omega arith)))
-    (Decides-and x y p q)
-  where
-    none_of : (c : Book) → length c ≡ 0 → c ≡ []
-    none_of [] e = refl
-    none_of (z ∷ c) e = absurd (omega arith)

@@ -1,10 +1,11 @@
+pub mod Sides
+pub mod Limits
+pub mod Asked
 pub mod Opened
-pub mod Taking
 pub mod Joined
 pub mod Limited
 pub mod Openings
 pub mod Joins
-pub mod Quotas
 pub mod Sums
-pub mod Wholes
 pub mod Banks
+pub mod Quotas

@@ -18,9 +18,8 @@ abbrev pub open_book : Bool → Book → Book
 open_book true b = b
 open_book false b = []
 
--- what is newly made is sound and has no claims; its rules are as meant where nothing is claimed below, else closed
+-- what is newly made has no claims; its rules are as meant where nothing is claimed below, else closed
 pub record Fresh {R : Type 0} (m : Ghosts R) (below : Book) (meant : Rules) (s : R) : Type 0 where
-  pub sound : m.sound s
   pub empty : m.book s ≡ []
   pub unclaimed : below ≡ [] → m.rules s ≡ meant
   pub claimed : (below ≢ []) → m.rules s ≡ closed meant

@@ -2,8 +2,8 @@
 #![tactic(auto)]
 
 pub use bank::Bank;
-pub use quota::{MOST_LIMIT, Quota};
+pub use quota::{MOST_LIMIT, PARTIES, Quota};
 
+mod asking;
 mod bank;
 mod quota;
-mod taking;
