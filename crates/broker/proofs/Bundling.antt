@@ -1,6 +1,6 @@
 -- What the loop that places the claims of a promise keeps.
 use Rattle.std.proofs.Common.{◌≡◌, ℕ, zero, suc, ◌+◌, ◌*◌, ◌%◌, ◌<◌, ◌≤◌, Bool, true, false, cond, ◌&&◌, List, [], ◌∷◌, ◌++◌, length, get_or, take, drop, is_some, Some, None, Ok, Err, Option, Result, sym, refl, ap, ◌∙◌, subst, add-zero, arith}
-use Rattle.std.proofs.lemmas.List.{drop_more, drop_all, take_more, append_assoc, append-nil, length-take-le}
+use Rattle.std.proofs.lemmas.List.{drop_more, take_more, append_assoc, append-nil, length-take-le}
 use Rattle.std.proofs.lemmas.Bool.{cond-true, cond-false, and_from}
 use Rattle.claims.specs.declared.Claim.{Claim}
 use Rattle.claims.specs.declared.ClaimKey.{ClaimKey}
@@ -70,22 +70,6 @@ pub record Placing (r : Rules) (b : Book) (k party : ℕ) (ds : List Demand) (j 
   pub short : short_at r (j + 1) b' (claims_from (k + j) party (drop j ds)) ≡ short_at r 1 b (claims_from k party ds)
   pub full : add_all (claims_from (k + j) party (drop j ds)) b' ≡ add_all (claims_from k party ds) b
 
-pub placing_none : (r : Rules) (b : Book) (k party : ℕ) (ds : List Demand) → Placing r b k party ds 0 b
-placing_none r b k party ds = record {
-  there = sym (append-nil b);
-  short = ap (λ i. short_at r 1 b (claims_from i party ds)) (add-zero k);
-  full = ap (λ i. add_all (claims_from i party ds) b) (add-zero k);
-}
-
-pub placing_all : (r : Rules) (b : Book) (n party : ℕ) (ds : List Demand) (j : ℕ) (b' : Book) → length ds ≤ j → Placing r b (4 * n) party ds j b' → PlacedAll r b n party ds (Ok tt) b'
-placing_all r b n party ds j b' h p =
-    let none : drop j ds ≡ [] = drop_all j ds h in
-    let s : short_at r 1 b (bundle n party ds) ≡ None = sym p.short ∙ ap (λ xs. short_at r (j + 1) b' (claims_from (4 * n + j) party xs)) none in
-    record {
-      value = sym (ap fault_or s);
-      after = sym (ap (λ xs. add_all (claims_from (4 * n + j) party xs) b') none) ∙ p.full ∙ sym (ap (λ o. book_or o b (add_all (bundle n party ds) b)) s);
-    }
-
 module _ (r : Rules) (b : Book) (k party : ℕ) (ds : List Demand) (fresh : Under k b) (j : ℕ) (b' : Book) (p : Placing r b k party ds j b') (d : Demand) (h : j < length ds) (e : d ≡ get_or ds j d) where
   left : drop j ds ≡ d ∷ drop (j + 1) ds
   left = drop_more ds j d h ∙ ap (λ y. y ∷ drop (j + 1) ds) (sym e)
@@ -123,23 +107,31 @@ module _ (r : Rules) (b : Book) (k party : ℕ) (ds : List Demand) (fresh : Unde
   placing_back = ap (lift_all (keys_from k (take j ds))) p.there ∙ lifted_back k party (take j ds) b fresh
 
 -- a turn of the loop, by what the call of `place` answered
-module _ (r : Rules) (b : Book) (n party : ℕ) (ds : List Demand) (ready : Ready r b n party ds) (j : ℕ) (b' : Book) (p : Placing r b (4 * n) party ds j b') (d : Demand) (h : j < length ds) (e : d ≡ get_or ds j d) (s : Rules) (same : s ≡ r) (t : Rules) (b'' : Book) where
+module _ (r : Rules) (b : Book) (n party : ℕ) (ds : List Demand) (ready : Ready r b n party ds) (j : ℕ) (b' : Book) (p : Placing r b (4 * n) party ds j b') (d : Demand) (h : j < length ds) (e : d ≡ get_or ds j d) (key : ClaimKey) (key-is : key.0 ≡ 4 * n + j) (s : Rules) (same : s ≡ r) (t : Rules) (b'' : Book) where
   abbrev next_claim : Claim
   next_claim = claim_at (4 * n + j) party d
+
+  abbrev asked_for : Claim
+  asked_for = claim_at key.0 party d
+
+  claim-is : asked_for ≡ next_claim
+  claim-is = ap (λ i. claim_at i party d) key-is
 
   asked : refusal s b' next_claim ≡ cond (r.carries (insert next_claim b')) None (Some (r.cause (insert next_claim b')))
   asked =
       ap (λ x. refusal x b' next_claim) same ∙
       ready_refusal r b' next_claim ready.party_known (ap r.reads e ∙ read_at r 1 ds j d (omega arith) ready.readable h) (place_free r b (4 * n) party ds ready.fresh j b' p d h e)
 
-  pub turn_ok : Placed next_claim s b' (Ok tt) t b'' → Placing r b (4 * n) party ds (j + 1) b''
-  turn_ok q =
+  pub turn_ok : Placed asked_for s b' (Ok tt) t b'' → Placing r b (4 * n) party ds (j + 1) b''
+  turn_ok p' =
+      let q = subst (λ (c : Claim). Placed c s b' (Ok tt) t b'') claim-is p' in
       let carried = answered_ok (record { 0 = 4 * n + j }) _ _ (sym (q.value ∙ ap (answered (record { 0 = 4 * n + j })) asked)) in
       let is : b'' ≡ insert next_claim b' = q.after ∙ ap (added next_claim b') (asked ∙ cond-true _ _ _ carried) in
       rw is (placing_more r b (4 * n) party ds ready.fresh j b' p d h e carried)
 
-  pub turn_err : (f : Fault) → Placed next_claim s b' (Err f) t b'' → (z : Book) → z ≡ lift_all (keys_from (4 * n) (take j ds)) b'' → PlacedAll r b n party ds (Err f) z
-  turn_err f q z back =
+  pub turn_err : (f : Fault) → Placed asked_for s b' (Err f) t b'' → (z : Book) → z ≡ lift_all (keys_from (4 * n) (take j ds)) b'' → PlacedAll r b n party ds (Err f) z
+  turn_err f p' z back =
+      let q = subst (λ (c : Claim). Placed c s b' (Err f) t b'') claim-is p' in
       let over = answered_err (record { 0 = 4 * n + j }) _ _ f (sym (q.value ∙ ap (answered (record { 0 = 4 * n + j })) asked)) in
       let is : b'' ≡ b' = q.after ∙ ap (added next_claim b') (asked ∙ cond-false _ _ _ over.0) in
       let short = placing_short r b (4 * n) party ds ready.fresh j b' p d h e over.0 in

@@ -1,44 +1,37 @@
 -- What the questions of a draft come to.
-use Rattle.std.proofs.Common.{◌≡◌, ℕ, ◌+◌, ◌<◌, ◌≤◌, Bool, true, false, cond, eqb, ltb, List, [], ◌∷◌, ◌++◌, length, is_some, Some, None, Ok, Err, Option, sym, refl, ap, ◌∙◌, subst, arith}
-use Rattle.std.proofs.lemmas.Bool.{cond-true, cond-false, lt-ltb, le-ltb, eq-eqb}
+use Rattle.std.proofs.Common.{◌≡◌, ℕ, ◌+◌, ◌<◌, ◌≤◌, false, eqb, ltb, List, [], ◌∷◌, ◌++◌, length, is_some, Some, None, Ok, Err, vec_items, vec_len, Option, Result, sym, refl, ap, ◌∙◌, subst, arith}
+use Rattle.std.specs.Option.{option_map}
+use Rattle.std.proofs.lemmas.List.{length-map, map_push}
+use Rattle.std.proofs.lemmas.Bool.{cond-true, lt-ltb, eq-eqb}
 use Rattle.claims.specs.declared.Demand.{Demand}
 use Rattle.claims.specs.declared.Fault.{Fault}
+use Rattle.claims.specs.declared.PromiseNumber.{PromiseNumber}
 use Rattle.claims.specs.Book.{Book}
 use Rattle.claims.specs.Rules.{Rules}
+use Rattle.resource.specs.declared.Resource.{Ghosts}
 use Rattle.machine.specs.declared.Refusal.{Refusal}
-use Rattle.machine.specs.declared.Refusal.TheVariants.{NotAParty, DraftSize, MinutesOutside, Unreadable, TooManyPromises, NumbersSpent}
-use Rattle.machine.specs.Machine.{State, Promise, Answer, first_missed, is_party, fits_draft, fits_minutes, unread_at, short_at, bundle, add_all, after, carried_all, not_carried, shortage, settle, made, next_or_zero, ask_refusal, at_minute, step}
+use Rattle.machine.specs.declared.Refusal.TheVariants.{NumbersSpent}
+use Rattle.machine.specs.Machine.{State, Promise, Answer, first_missed, is_party, fits_draft, fits_minutes, unread_at, short_at, bundle, add_all, after, carried_all, not_carried, shortage, settle, made, next_or_zero, ask_refusal}
 use Rattle.machine.specs.Machine.Answer.{granted, refused}
-use Rattle.machine.specs.Machine.Call.{ask}
 use Rattle.machine.specs.Entries.{Consistent}
 use Rattle.machine.specs.Limits.{most_promises, most_demands}
 use Rattle.machine.specs.Refusals.{not_carried_for}
-use Rattle.machine.proofs.Keeping.{consistent_minute}
-use Rattle.broker.specs.Asks.{draft_missed, goods_missed, FitsDraft, Grants}
-use Rattle.broker.specs.Bundles.{fault_or, book_or}
+use Rattle.machine.proofs.Keeping.{asked, consistent-made, consistent-fresh}
+use Rattle.broker.specs.declared.desk.Broker.{Broker}
+use Rattle.broker.specs.declared.held.Promise.{Promise as Held}
+use Rattle.broker.specs.Held.{state, live_view, promise_view}
+use Rattle.broker.specs.View.{view}
+use Rattle.broker.specs.Asks.{goods_missed, FitsDraft}
+use Rattle.broker.specs.Bundles.{Ready, Bundled, fault_or, book_or}
 use Rattle.broker.proofs.Bundling.{PlacedAll, short_position}
-
-missed_more : (qs bs : List (Bool × Refusal)) (x : Refusal) → first_missed qs ≡ Some x → first_missed (qs ++ bs) ≡ Some x
-missed_more [] bs x e = cc
-missed_more (q ∷ qs) bs x e = go q.0 e (λ f. missed_more qs bs x f)
-  where
-    go : (t : Bool) → cond t (first_missed qs) (Some q.1) ≡ Some x → (first_missed qs ≡ Some x → first_missed (qs ++ bs) ≡ Some x) → cond t (first_missed (qs ++ bs)) (Some q.1) ≡ Some x
-    go true f ih = ih f
-    go false f ih = f
 
 module _ (r : Rules) (party minutes : ℕ) (ds : List Demand) (s : State) where
   abbrev pub outcome : Option Refusal → State × Answer
   outcome o = settle o s (made r party minutes ds s) (granted (next_or_zero s.next))
 
-  pub goods_full : most_promises ≤ length s.live → ◌≡◌ {A = State × Answer} (s, refused TooManyPromises) (outcome (goods_missed r party minutes ds s))
-  goods_full h = sym (ap outcome (cond-false (ltb (length s.live) most_promises) _ _ (le-ltb (length s.live) most_promises h)))
-
   module _ (room : length s.live < most_promises) where
     past_room : goods_missed r party minutes ds s ≡ first_missed ((is_some s.next, NumbersSpent) ∷ (carried_all (shortage r party minutes ds s), not_carried (shortage r party minutes ds s)) ∷ [])
     past_room = cond-true (ltb (length s.live) most_promises) _ _ (lt-ltb (length s.live) most_promises room)
-
-    pub goods_spent : s.next ≡ None → ◌≡◌ {A = State × Answer} (s, refused NumbersSpent) (outcome (goods_missed r party minutes ds s))
-    goods_spent e = sym (ap outcome (past_room ∙ cond-false (is_some s.next) _ _ (ap is_some e)))
 
     module _ (n : ℕ) (e : s.next ≡ Some n) (b' : Book) where
       past_next : goods_missed r party minutes ds s ≡ first_missed ((carried_all (shortage r party minutes ds s), not_carried (shortage r party minutes ds s)) ∷ [])
@@ -77,25 +70,50 @@ module _ (r : Rules) (party minutes : ℕ) (ds : List Demand) (s : State) where
           ∙ ap at (sym (ap next_or_zero e))
           ∙ sym (ap outcome m)
 
-  -- the first questions
-  pub ask-missed : (x : Refusal) → draft_missed r party minutes ds ≡ Some x → ask_refusal r party minutes ds s ≡ Some x
-  ask-missed x e = missed_more ((is_party party, NotAParty) ∷ (fits_draft ds, DraftSize) ∷ (fits_minutes minutes, MinutesOutside) ∷ (eqb (unread_at r 1 ds) 0, Unreadable (unread_at r 1 ds)) ∷ []) ((ltb (length s.live) most_promises, TooManyPromises) ∷ (is_some s.next, NumbersSpent) ∷ (carried_all (shortage r party minutes ds s), not_carried (shortage r party minutes ds s)) ∷ []) x e
-
   pub ask_passed : FitsDraft party minutes ds → unread_at r 1 ds ≡ 0 → ask_refusal r party minutes ds s ≡ goods_missed r party minutes ds s
   ask_passed f u =
       cond-true (is_party party) _ _ f.party_known ∙ cond-true (fits_draft ds) _ _ f.size ∙ cond-true (fits_minutes minutes) _ _ f.time ∙ cond-true (eqb (unread_at r 1 ds) 0) _ _ (eq-eqb (unread_at r 1 ds) 0 u)
 
--- the whole call, by the state once the minute has passed
-module _ (r : Rules) (m party minutes : ℕ) (ds : List Demand) (s : State) (t : State) (t-is : t ≡ at_minute m s) (r' : Rules) (same : r' ≡ r) where
-  pub ask-refused : (x : Refusal) → draft_missed r' party minutes ds ≡ Some x → ◌≡◌ {A = State × Answer} (t, refused x) (step r s (ask m party minutes ds))
-  ask-refused x e =
-      let d : draft_missed r party minutes ds ≡ Some x = subst (λ z. draft_missed z party minutes ds ≡ Some x) same e in
-      ap (λ z. (z, refused x)) t-is ∙ sym (ap (outcome r party minutes ds (at_minute m s)) (ask-missed r party minutes ds (at_minute m s) x d))
+  -- what is left is consistent
+  pub granted_keeps : FitsDraft party minutes ds → unread_at r 1 ds ≡ 0 → Consistent s → (t : State) (a : Answer) → ◌≡◌ {A = State × Answer} (t, a) (outcome (goods_missed r party minutes ds s)) → Consistent t
+  granted_keeps f u k t a e = subst Consistent (sym (ap (λ w. w.0) e)) (go (goods_missed r party minutes ds s) refl)
+    where
+      go : (o : Option Refusal) → goods_missed r party minutes ds s ≡ o → Consistent (outcome o).0
+      go None m = let q = asked r party minutes ds s (ask_passed f u ∙ m) in consistent-made r party minutes ds s q.numbered q.known q.few k
+      go (Some x) m = k
 
-  pub ask-granted : (u : State) (a : Answer) → Consistent s → FitsDraft party minutes ds → unread_at r' 1 ds ≡ 0 → Grants r' party minutes ds t a u → ◌≡◌ {A = State × Answer} (u, a) (step r s (ask m party minutes ds))
-  ask-granted u a c f e g =
-      let ct : Consistent t = subst Consistent (sym t-is) (consistent_minute m s c) in
-      g ct f.party_known e
-      ∙ ap (λ z. outcome z party minutes ds t (goods_missed z party minutes ds t)) same
-      ∙ ap (λ z. outcome r party minutes ds z (goods_missed r party minutes ds z)) t-is
-      ∙ sym (ap (outcome r party minutes ds (at_minute m s)) (ask_passed r party minutes ds (at_minute m s) f (subst (λ z. unread_at z 1 ds ≡ 0) same e)))
+-- a broker with room for a promise, and a number for it, meets a draft that passes the first questions
+module _ {X : Type 0} (m : Ghosts X) (b : Broker X m) (room : vec_len b.live < most_promises) (number : PromiseNumber) (e : b.next ≡ Some number) (party minutes : ℕ) (ds : List Demand) (f : FitsDraft party minutes ds) (u : unread_at (m.rules b.resource) 1 ds ≡ 0) (x : X) (k : Consistent (view m b)) where
+  abbrev r : Rules
+  r = m.rules b.resource
+
+  abbrev s : State
+  s = view m b
+
+  few : length s.live < most_promises
+  few = omega (arith, length-map (vec_items b.live) promise_view, b.live.ok.0, room)
+
+  next : s.next ≡ Some number.0
+  next = ap (option_map (λ n. n.0)) e
+
+  placed : (answer : Result (Unit {0}) Fault) → Bundled m b.resource number.0 party ds answer x → PlacedAll r s.book number.0 party ds answer (m.book x)
+  placed answer q =
+      let ready : Ready r s.book number.0 party ds = record { party_known = f.party_known; readable = u; fresh = consistent-fresh number.0 s next k } in
+      record { value = q.value ready; after = q.after ready }
+
+  -- the goods fall short
+  pub falls_short : (fault : Fault) → Bundled m b.resource number.0 party ds (Err fault) x → ◌≡◌ {A = State × Answer} (state b.clock b.next (vec_items b.live) (m.book x), refused (not_carried_for fault)) (outcome r party minutes ds s (goods_missed r party minutes ds s))
+  falls_short fault q = goods-short r party minutes ds s few number.0 next (m.book x) fault f.high (placed (Err fault) q)
+
+  pub short_keeps : (fault : Fault) → Bundled m b.resource number.0 party ds (Err fault) x → Consistent (state b.clock b.next (vec_items b.live) (m.book x))
+  short_keeps fault q = granted_keeps r party minutes ds s f u k _ _ (falls_short fault q)
+
+  -- the promise is made
+  module _ (q : Bundled m b.resource number.0 party ds (Ok tt) x) (after-is : Option PromiseNumber) (after-of : option_map (λ n. n.0) after-is ≡ after number.0) (p : Held) (p-is : promise_view p ≡ record { number = number.0; party = party; last = b.clock + minutes; demands = ds; taken = false }) (live : List Held) (live-is : live ≡ vec_items b.live ++ (p ∷ [])) where
+    pub makes : ◌≡◌ {A = State × Answer} (state b.clock after-is live (m.book x), granted number.0) (outcome r party minutes ds s (goods_missed r party minutes ds s))
+    makes =
+        goods-made r party minutes ds s few number.0 next (m.book x) (placed (Ok tt) q) _ after-of _
+        (ap live_view live-is ∙ map_push promise_view (vec_items b.live) p ∙ ap (λ y. live_view (vec_items b.live) ++ (y ∷ [])) p-is)
+
+    pub made_keeps : Consistent (state b.clock after-is live (m.book x))
+    made_keeps = granted_keeps r party minutes ds s f u k _ _ makes

@@ -1,4 +1,5 @@
-mod Sizes
+mod Consistency
+mod Firsts
 mod Turns
 mod Places
 mod Lifts
@@ -8,4 +9,3 @@ mod Reading
 mod Granting
 mod Ending
 mod Taking
-mod Starting

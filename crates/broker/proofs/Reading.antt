@@ -1,20 +1,34 @@
--- What the loop over the demands of a draft keeps.
-use Rattle.std.proofs.Common.{◌≡◌, ℕ, ◌+◌, ◌<◌, ◌≤◌, true, false, cond, List, length, get_or, drop, sym, ◌∙◌}
-use Rattle.std.proofs.lemmas.List.{at_drop_more, at_drop_all}
-use Rattle.std.proofs.lemmas.Bool.{cond-true, cond-false}
+-- The first demand of a draft that is not read.
+use Rattle.std.proofs.Common.{◌≡◌, ℕ, ◌+◌, ◌<◌, ◌≤◌, Bool, true, false, cond, not, List, [], ◌∷◌, length, refl, sym, add-zero, arith}
+use Rattle.std.specs.List.{position, position_or_len}
+use Rattle.std.specs.Option.{option_map}
 use Rattle.claims.specs.declared.Demand.{Demand}
 use Rattle.claims.specs.Rules.{Rules}
 use Rattle.machine.specs.Machine.{unread_at}
+use Rattle.broker.specs.Asks.{Unread}
+use Rattle.broker.proofs.Firsts.{at_position}
 
-module _ (r : Rules) (ds : List Demand) (j : ℕ) (d : Demand) (h : j < length ds) where
-  here : unread_at r (j + 1) (drop j ds) ≡ cond (r.reads (get_or ds j d)) (unread_at r ((j + 1) + 1) (drop (j + 1) ds)) (j + 1)
-  here = at_drop_more (unread_at r (j + 1)) ds j d h
+abbrev pub strange : Rules → Demand → Bool
+strange r d = not (r.reads d)
 
-  pub unread_more : r.reads (get_or ds j d) ≡ true → unread_at r ((j + 1) + 1) (drop (j + 1) ds) ≡ unread_at r (j + 1) (drop j ds)
-  unread_more t = sym (here ∙ cond-true _ _ _ t)
+abbrev place : Rules → List Demand → ℕ
+place r ds = position_or_len (strange r) ds
 
-  pub unread_here : r.reads (get_or ds j d) ≡ false → unread_at r (j + 1) (drop j ds) ≡ j + 1
-  unread_here f = here ∙ cond-false _ _ _ f
+unread_there : (r : Rules) (i : ℕ) (ds : List Demand) → place r ds < length ds → unread_at r i ds ≡ i + place r ds
+unread_there r i [] h = absurd (omega arith)
+unread_there r i (d ∷ ds) h = go (r.reads d) h (λ l. unread_there r (i + 1) ds l)
+  where
+    go : (q : Bool) → cond (not (not q)) (1 + place r ds) 0 < length (d ∷ ds) → (place r ds < length ds → unread_at r (i + 1) ds ≡ (i + 1) + place r ds) → cond q (unread_at r (i + 1) ds) i ≡ i + cond (not (not q)) (1 + place r ds) 0
+    go true l ih = omega (arith, ih (omega arith))
+    go false l ih = sym (add-zero i)
 
-pub unread_all : (r : Rules) (ds : List Demand) (j : ℕ) → length ds ≤ j → unread_at r (j + 1) (drop j ds) ≡ 0
-unread_all r ds j h = at_drop_all (unread_at r (j + 1)) ds j h
+none_unread : (r : Rules) (i : ℕ) (ds : List Demand) → length ds ≤ place r ds → unread_at r i ds ≡ 0
+none_unread r i [] h = refl
+none_unread r i (d ∷ ds) h = go (r.reads d) h (λ l. none_unread r (i + 1) ds l)
+  where
+    go : (q : Bool) → length (d ∷ ds) ≤ cond (not (not q)) (1 + place r ds) 0 → (length ds ≤ place r ds → unread_at r (i + 1) ds ≡ 0) → cond q (unread_at r (i + 1) ds) i ≡ 0
+    go true l ih = ih (omega arith)
+    go false l ih = absurd (omega arith)
+
+pub unread : (r : Rules) (ds : List Demand) → Unread r ds (option_map (λ i. i + 1) (position (strange r) ds))
+unread r ds = at_position (strange r) ds (λ o. Unread r ds (option_map (λ i. i + 1) o)) (λ l. (omega arith, omega (arith, unread_there r 1 ds l))) (none_unread r 1 ds)

@@ -4,7 +4,6 @@ use Rattle.claims.specs.declared.Demand.{Demand}
 use Rattle.claims.specs.Rules.{Rules}
 use Rattle.machine.specs.declared.Refusal.{Refusal}
 use Rattle.machine.specs.declared.Refusal.TheVariants.{NotAParty, DraftSize, MinutesOutside, Unreadable, TooManyPromises, NumbersSpent}
-use Rattle.machine.specs.Entries.{Consistent}
 use Rattle.machine.specs.Limits.{most_promises, most_demands, most_minutes}
 use Rattle.machine.specs.Machine.{State, Answer, first_missed, is_party, fits_draft, fits_minutes, unread_at, carried_all, not_carried, shortage, settle, made, next_or_zero}
 use Rattle.machine.specs.Machine.Answer.{granted}
@@ -48,5 +47,4 @@ DraftChecked r party minutes ds (Err x) = draft_missed r party minutes ds ≡ So
 -- what is answered and left where a draft that passes the first questions meets the others
 abbrev pub Grants : Rules → ℕ → ℕ → List Demand → State → Answer → State → Type 0
 Grants r party minutes ds s a t =
-    Consistent s → is_party party ≡ true → unread_at r 1 ds ≡ 0 →
     ◌≡◌ {A = State × Answer} (t, a) (settle (goods_missed r party minutes ds s) s (made r party minutes ds s) (granted (next_or_zero s.next)))

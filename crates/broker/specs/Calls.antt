@@ -1,5 +1,6 @@
 -- The machine's calls and answers that those of a broker stand for.
 use Rattle.std.specs.Prelude.{ℕ, List, map, take, Ok, Err, Result}
+use Rattle.arrayvec.specs.ArrayVec.{ArrayVec}
 use Rattle.claims.specs.declared.ItemNumber.{ItemNumber}
 use Rattle.claims.specs.declared.PromiseNumber.{PromiseNumber}
 use Rattle.machine.specs.declared.Refusal.{Refusal}
@@ -9,7 +10,6 @@ use Rattle.machine.specs.Machine.Answer.{granted, handed, done, told, refused}
 use Rattle.machine.specs.Slots.{slot_number}
 use Rattle.broker.specs.declared.call.Call.{Call}
 use Rattle.broker.specs.declared.call.Call.TheVariants.{Ask, Take, Release, GiveBack, Question}
-use Rattle.broker.specs.declared.call.Units.{Units}
 use Rattle.broker.specs.declared.call.Answer.{Answer}
 use Rattle.broker.specs.declared.call.Answer.TheVariants.{Granted, Handed, Done, Told}
 use Rattle.broker.specs.Drafts.{demands_of}
@@ -25,8 +25,9 @@ call_of (Question number) = question number.0
 abbrev pub first_items : ℕ → List ItemNumber → List ℕ
 first_items n items = map (λ i. i.0) (take n items)
 
-abbrev pub units_of : Units → List ℕ
-units_of u = first_items u.count u.items
+-- the units of a taking
+abbrev pub units_of : ArrayVec ItemNumber → List ℕ
+units_of u = map (λ i. i.0) u.items
 
 -- what each answer stands for, and each refusal
 abbrev pub told_by : Answer → MachineAnswer
@@ -43,6 +44,10 @@ answer_of (Err refusal) = refused refusal
 abbrev pub granted_or : Result PromiseNumber Refusal → MachineAnswer
 granted_or (Ok n) = granted n.0
 granted_or (Err x) = refused x
+
+abbrev pub units_or : Result (ArrayVec ItemNumber) Refusal → MachineAnswer
+units_or (Ok units) = handed (units_of units)
+units_or (Err x) = refused x
 
 abbrev pub handed_or : List ItemNumber → Result ℕ Refusal → MachineAnswer
 handed_or items (Ok n) = handed (first_items n items)

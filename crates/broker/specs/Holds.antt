@@ -7,7 +7,7 @@ use Rattle.machine.specs.declared.Refusal.TheVariants.{NotAParty, NotLive, NotYo
 use Rattle.machine.specs.Machine.{Promise, promise_of, ended, marked_taken, first_missed, is_party, is_live, is_theirs, slot_of}
 use Rattle.machine.specs.Slots.{met}
 use Rattle.broker.specs.declared.held.Promise.{Promise as Held}
-use Rattle.broker.specs.View.{promise_view, live_view}
+use Rattle.broker.specs.Held.{promise_view, live_view}
 
 -- a promise once it is taken
 abbrev pub as_taken : Promise → Promise

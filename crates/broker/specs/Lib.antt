@@ -1,4 +1,5 @@
 pub mod Drafts
+pub mod Held
 pub mod View
 pub mod Calls
 pub mod Steps

@@ -1,25 +1,24 @@
 // The questions that a draft has to pass before the goods are asked for.
-ghost use Rattle.std.specs.Prelude.{◌≡◌, ◌≤◌, length};
+ghost use Rattle.std.specs.Prelude.{◌≡◌};
 ghost use Rattle.std.specs.Option.{option_map};
-ghost use Rattle.machine.specs.Limits.{most_demands};
 ghost use Rattle.machine.specs.Machine.{after as number_after};
 ghost use Rattle.broker.specs.Asks.{Unread, Checked, DraftChecked};
+ghost use Rattle.broker.specs.Drafts.{demands_of};
 
-use claims::{Demand, Party, PromiseNumber};
-use machine::{LAST_NUMBER, MOST_DEMANDS, MOST_MINUTES, Refusal};
+use crate::draft::Draft;
+use claims::{Party, PromiseNumber};
+use machine::{MOST_MINUTES, Refusal};
 use resource::Resource;
 
 // The position, from 1, of the first demand that a resource does not read.
-fn unread<R: Resource>(resource: &R, draft: &[Demand]) -> Option<u8>
-    requires { length draft.now ≤ most_demands }
-    ensures { R.Resource.sound resource.now → Unread (R.Resource.rules resource.now) draft.now result }
+fn unread<R: Resource>(resource: &R, draft: &Draft) -> Option<u8>
+    ensures { Unread (R.Resource.rules resource.now) (demands_of draft.now) result }
 {
-    for (j, demand) in draft.iter().enumerate() {
-        if !resource.reads(*demand) {
-            return Some(j as u8 + 1);
-        }
-    }
-    None
+    draft
+        .as_slice()
+        .iter()
+        .position(|demand| !resource.reads(*demand))
+        .map(|place| place as u8 + 1)
 }
 
 // Puts the questions on the party, the draft and the minutes.
@@ -27,18 +26,18 @@ pub(crate) fn check_draft<R: Resource>(
     resource: &R,
     party: Party,
     minutes: u32,
-    draft: &[Demand],
+    draft: &Draft,
 ) -> Result<(), Refusal>
-    ensures fits { Checked party.0 minutes draft.now result }
-    ensures checked { R.Resource.sound resource.now → DraftChecked (R.Resource.rules resource.now) party.0 minutes draft.now result }
+    ensures fits { Checked party.0 minutes (demands_of draft.now) result }
+    ensures checked { DraftChecked (R.Resource.rules resource.now) party.0 minutes (demands_of draft.now) result }
 {
     if !party.is_known() {
         return Err(Refusal::NotAParty);
     }
-    if draft.is_empty() | (draft.len() > MOST_DEMANDS) {
+    if draft.as_slice().is_empty() {
         return Err(Refusal::DraftSize);
     }
-    if (minutes < 1) | (minutes > MOST_MINUTES) {
+    if !(1..=MOST_MINUTES).contains(&minutes) {
         return Err(Refusal::MinutesOutside);
     }
     match unread(resource, draft) {
@@ -51,9 +50,5 @@ pub(crate) fn check_draft<R: Resource>(
 pub(crate) fn following(number: PromiseNumber) -> Option<PromiseNumber>
     ensures { option_map (λ n. n.0) result ≡ number_after number.0 }
 {
-    if number.0 < LAST_NUMBER {
-        Some(PromiseNumber(number.0 + 1))
-    } else {
-        None
-    }
+    number.0.checked_add(1).map(PromiseNumber)
 }

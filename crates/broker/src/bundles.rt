@@ -1,25 +1,35 @@
-// The claims of one promise, all together: demand j of promise n has its claim under key 4 n + j.
-ghost use Rattle.std.specs.Prelude.{◌≡◌, ◌*◌, ◌≤◌, List, length, IfOk};
+// The claims of one promise, all together.
+ghost use Rattle.std.specs.Prelude.{◌≡◌, ◌+◌, ◌*◌, ◌≤◌, List, length};
 ghost use Rattle.claims.specs.declared.Demand.{Demand as Wanted};
 ghost use Rattle.machine.specs.Limits.{most_demands};
 ghost use Rattle.machine.specs.Machine.{keys_from, keys_of, lift_all};
-ghost use Rattle.broker.specs.Bundles.{Rebooks, Bundled, HandedOut, ZerosBehind};
+ghost use Rattle.broker.specs.Bundles.{Rebooks, Bundled, HandedOut};
 ghost use Rattle.broker.specs.Drafts.{demands_of};
-ghost use Rattle.broker.specs.View.{promise_view};
+ghost use Rattle.broker.specs.Held.{promise_view};
 
+use crate::call::Units;
+use crate::draft::Draft;
 use crate::held::Promise;
-use claims::{ClaimKey, Demand, Fault, ItemNumber, Party, PromiseNumber};
+use arrayvec::ArrayVec;
+use claims::{ClaimKey, Fault, Party, PromiseNumber};
 use machine::MOST_DEMANDS;
 use resource::Resource;
+
+// The key of a promise's claim for the demand at a place in its draft: 4 n + j for demand j of promise n.
+fn claim_key(number: PromiseNumber, place: usize) -> ClaimKey
+    requires { place ≤ most_demands }
+    ensures { result.0 ≡ most_demands * number.0 + place }
+{
+    ClaimKey(MOST_DEMANDS as u64 * u64::from(number.0) + place as u64)
+}
 
 // Lifts the first claims of a promise, so many of them.
 fn lift_first<R: Resource>(resource: &mut R, number: PromiseNumber, count: usize)
     requires { count ≤ most_demands }
     ensures { (ds : List Wanted) → length ds ≡ count → Rebooks R.Resource resource.old resource.new (lift_all (keys_from (most_demands * number.0) ds) (R.Resource.book resource.old)) }
 {
-    let first = MOST_DEMANDS as u64 * number.0 as u64;
-    for j in 0..count {
-        let _ = resource.lift(ClaimKey(first + j as u64));
+    for place in 0..count {
+        let _ = resource.lift(claim_key(number, place));
     }
 }
 
@@ -35,33 +45,27 @@ pub(crate) fn place_claims<R: Resource>(
     resource: &mut R,
     number: PromiseNumber,
     party: Party,
-    demands: &[Demand],
+    draft: &Draft,
 ) -> Result<(), Fault>
-    requires { length demands.now ≤ most_demands }
-    ensures { Bundled R.Resource resource.old number.0 party.0 demands.now result resource.new }
+    ensures { Bundled R.Resource resource.old number.0 party.0 (demands_of draft.now) result resource.new }
 {
-    let first = MOST_DEMANDS as u64 * number.0 as u64;
-    for (j, demand) in demands.iter().enumerate() {
-        if let Err(fault) = resource.place(ClaimKey(first + j as u64), party, *demand) {
-            lift_first(resource, number, j);
+    let demands = draft.as_slice();
+    for (place, demand) in demands.iter().enumerate() {
+        if let Err(fault) = resource.place(claim_key(number, place), party, *demand) {
+            lift_first(resource, number, place);
             return Err(fault);
         }
     }
     Ok(())
 }
 
-// Draws the claims of a promise, in the order of its demands. Units that it has no demand for are 0.
-pub(crate) fn draw_claims<R: Resource>(
-    resource: &mut R,
-    promise: &Promise,
-) -> Result<[ItemNumber; MOST_DEMANDS], Fault>
-    ensures zeros { IfOk result (λ items. (length items ≡ most_demands) × ZerosBehind (length (demands_of promise.now.draft)) items) }
-    ensures drawn { HandedOut R.Resource resource.old (promise_view promise.now) result resource.new }
+// Draws the claims of a promise, in the order of its demands.
+pub(crate) fn draw_claims<R: Resource>(resource: &mut R, promise: &Promise) -> Result<Units, Fault>
+    ensures { HandedOut R.Resource resource.old (promise_view promise.now) result resource.new }
 {
-    let first = MOST_DEMANDS as u64 * promise.number.0 as u64;
-    let mut units = [ItemNumber(0); MOST_DEMANDS];
-    for j in 0..promise.draft.len() {
-        units[j] = resource.draw(ClaimKey(first + j as u64))?;
+    let mut units = ArrayVec::new();
+    for place in 0..promise.draft.len() {
+        units.push(resource.draw(claim_key(promise.number, place))?);
     }
     Ok(units)
 }

@@ -1,11 +1,10 @@
-ghost use Rattle.std.specs.Prelude.{◌≡◌, ◌≤◌, length};
-ghost use Rattle.machine.specs.Limits.{most_demands};
-
 use crate::draft::Draft;
+use arrayvec::ArrayVec;
 use claims::{ItemNumber, Party, PromiseNumber};
 use machine::{MOST_DEMANDS, Slot};
 
-// One call on a broker, with its arguments.
+// One call on a broker, with its arguments. Three calls have the same three: a struct for these would be no plainer,
+// since every caller would make one only for the call to take it apart.
 #[derive(Drop)]
 pub enum Call {
     Ask {
@@ -34,17 +33,11 @@ pub enum Call {
     },
 }
 
-// The units that a taking hands over, in the order of the demands; those behind the last are 0.
-#[derive(Clone, Copy)]
-pub struct Units {
-    pub items: [ItemNumber; MOST_DEMANDS],
-    pub count: usize,
-    ghost whole: { length items ≡ most_demands },
-    ghost few: { count ≤ most_demands },
-}
+// The units that a taking hands over, in the order of the demands.
+pub type Units = ArrayVec<ItemNumber, MOST_DEMANDS>;
 
 // What a call that is not refused is told.
-#[derive(Clone, Copy)]
+#[derive(Clone, Drop)]
 pub enum Answer {
     // an ask: the number of the promise
     Granted(PromiseNumber),

@@ -1,11 +1,11 @@
 // The calls on a broker. Each begins with its minute: the clock moves on, and what has run out by then lapses.
-ghost use Rattle.std.specs.Prelude.{◌≡◌, ◌≤◌};
-ghost use Rattle.machine.specs.Limits.{most_minutes};
+ghost use Rattle.std.specs.Prelude.{◌≡◌};
+ghost use Rattle.machine.specs.Machine.{unread_at};
 ghost use Rattle.machine.specs.Machine.Call.{ask as ask_for, take as take_up, release as give_up, give_back as hand_back, question as ask_after};
 ghost use Rattle.machine.specs.Machine.Answer.{told};
 ghost use Rattle.machine.specs.Slots.{slot_number};
-ghost use Rattle.broker.specs.Asks.{Grants};
-ghost use Rattle.broker.specs.Calls.{call_of, answer_of, granted_or, handed_or, done_or};
+ghost use Rattle.broker.specs.Asks.{FitsDraft, Grants};
+ghost use Rattle.broker.specs.Calls.{call_of, answer_of, granted_or, units_or, handed_or, done_or};
 ghost use Rattle.broker.specs.Drafts.{demands_of};
 ghost use Rattle.broker.specs.Steps.{MadeOver, Passes, Steps, Ends, UnitsLeft};
 ghost use Rattle.broker.specs.View.{view};
@@ -16,27 +16,20 @@ use crate::call::{Answer, Call, Units};
 use crate::desk::Broker;
 use crate::draft::Draft;
 use crate::held::Promise;
-use crate::holding::{hold, lapse, mark_taken, slot_under};
+use crate::holding::{hold, lapse, slot_under};
+use crate::no_room::NoRoom;
 use claims::{ItemNumber, Party, PromiseNumber};
 use machine::{Event, MOST_DEMANDS, MOST_PROMISES, Refusal, Slot};
 use resource::Resource;
-use std::alloc::{AllocError, Global};
+use std::alloc::Global;
 
 impl<R: Resource> Broker<R> {
     // A broker with no promises over a resource. Its numbers start at the one given, 0 counting as 1; over a
     // resource that has claims they are spent. Where memory is short, the resource is handed back.
-    pub fn new(
-        heap: Global,
-        resource: R,
-        first: PromiseNumber,
-    ) -> Result<Broker<R>, (AllocError, R)>
+    pub fn new(heap: Global, resource: R, first: PromiseNumber) -> Result<Broker<R>, NoRoom<R>>
         ensures { MadeOver R.Resource first.0 resource result }
     {
-        let next = if resource.count() == 0 {
-            Some(PromiseNumber(first.0.max(1)))
-        } else {
-            None
-        };
+        let next = (resource.count() == 0).then_some(PromiseNumber(first.0.max(1)));
         match Vec::with_capacity(heap, MOST_PROMISES) {
             Ok(live) => Ok(Broker {
                 clock: 0,
@@ -44,7 +37,7 @@ impl<R: Resource> Broker<R> {
                 live,
                 resource,
             }),
-            Err(error) => Err((error, resource)),
+            Err(error) => Err(NoRoom { error, resource }),
         }
     }
 
@@ -52,34 +45,28 @@ impl<R: Resource> Broker<R> {
     fn at_minute(&mut self, minute: u32)
         ensures { Passes R.Resource self.old minute self.new }
     {
-        if self.clock < minute {
-            self.clock = minute;
-        }
+        self.clock = self.clock.max(minute);
         lapse(&mut self.live, &mut self.resource, self.clock);
     }
 
     // Makes a promise of a draft that passes the first questions, if it passes those on promises, numbers and goods.
     fn grant(&mut self, party: Party, minutes: u32, draft: Draft) -> Result<PromiseNumber, Refusal>
-        requires { minutes ≤ most_minutes }
-        ensures kept { R.Resource.sound self.old.resource → R.Resource.sound self.new.resource }
-        ensures same { R.Resource.sound self.old.resource → R.Resource.rules self.new.resource ≡ R.Resource.rules self.old.resource }
-        ensures after { R.Resource.sound self.old.resource → Grants (R.Resource.rules self.old.resource) party.0 minutes (demands_of draft) (view R.Resource self.old) (granted_or result) (view R.Resource self.new) }
+        requires fits { FitsDraft party.0 minutes (demands_of draft) }
+        requires readable { unread_at (R.Resource.rules self.old.resource) 1 (demands_of draft) ≡ 0 }
+        ensures same { R.Resource.rules self.new.resource ≡ R.Resource.rules self.old.resource }
+        ensures after { Grants (R.Resource.rules self.old.resource) party.0 minutes (demands_of draft) (view R.Resource self.old) (granted_or result) (view R.Resource self.new) }
     {
         if self.live.len() >= MOST_PROMISES {
             return Err(Refusal::TooManyPromises);
         }
-        let Some(number) = self.next else {
-            return Err(Refusal::NumbersSpent);
-        };
-        place_claims(&mut self.resource, number, party, draft.as_slice())?;
-        let last = self.clock as u64 + minutes as u64;
-        let taken = false;
+        let number = self.next.ok_or(Refusal::NumbersSpent)?;
+        place_claims(&mut self.resource, number, party, &draft)?;
+        let last = Some(u64::from(self.clock) + u64::from(minutes));
         self.live.push_reserved(Promise {
             number,
             party,
             last,
             draft,
-            taken,
         });
         self.next = following(number);
         Ok(number)
@@ -96,11 +83,28 @@ impl<R: Resource> Broker<R> {
         ensures { Steps R.Resource self.old (ask_for minute party.0 minutes (demands_of draft)) (granted_or result) self.new }
     {
         self.at_minute(minute);
-        check_draft(&self.resource, party, minutes, draft.as_slice())?;
+        check_draft(&self.resource, party, minutes, &draft)?;
         self.grant(party, minutes, draft)
     }
 
-    // Takes the goods of a promise: the units go to the caller's place, and their count is the answer.
+    // Takes the goods of a promise, and answers their units.
+    fn hand_over(
+        &mut self,
+        minute: u32,
+        party: Party,
+        number: PromiseNumber,
+    ) -> Result<Units, Refusal>
+        ensures { Steps R.Resource self.old (take_up minute party.0 number.0) (units_or result) self.new }
+    {
+        self.at_minute(minute);
+        let i = hold(&self.live, party, number, Event::Take)?;
+        let units = draw_claims(&mut self.resource, &self.live[i])?;
+        self.live[i].last = None;
+        Ok(units)
+    }
+
+    // Takes the goods of a promise. A rule of the project wants the units in a place for four numbers that the caller
+    // has, with 0 behind the last, and their count as the answer.
     pub fn take(
         &mut self,
         minute: u32,
@@ -111,14 +115,10 @@ impl<R: Resource> Broker<R> {
         ensures steps { Steps R.Resource self.old (take_up minute party.0 number.0) (handed_or units.new result) self.new }
         ensures place { UnitsLeft units.old result units.new }
     {
-        self.at_minute(minute);
-        let i = hold(&self.live, party, number, Event::Take)?;
-        let promise = &self.live[i];
-        let count = promise.draft.len();
-        let drawn = draw_claims(&mut self.resource, promise)?;
-        mark_taken(&mut self.live, i);
-        *units = drawn;
-        Ok(count)
+        let drawn = self.hand_over(minute, party, number)?;
+        *units = [ItemNumber(0); MOST_DEMANDS];
+        units[..drawn.len()].copy_from_slice(drawn.as_slice());
+        Ok(drawn.len())
     }
 
     // Ends a promise that an event fits, and lifts its claims.
@@ -179,32 +179,22 @@ impl<R: Resource> Broker<R> {
                 party,
                 minutes,
                 draft,
-            } => Ok(Answer::Granted(self.ask(minute, party, minutes, draft)?)),
+            } => self.ask(minute, party, minutes, draft).map(Answer::Granted),
             Call::Take {
                 minute,
                 party,
                 number,
-            } => {
-                let mut items = [ItemNumber(0); MOST_DEMANDS];
-                let count = self.take(minute, party, number, &mut items)?;
-                Ok(Answer::Handed(Units { items, count }))
-            }
+            } => self.hand_over(minute, party, number).map(Answer::Handed),
             Call::Release {
                 minute,
                 party,
                 number,
-            } => {
-                self.release(minute, party, number)?;
-                Ok(Answer::Done)
-            }
+            } => self.release(minute, party, number).map(|_| Answer::Done),
             Call::GiveBack {
                 minute,
                 party,
                 number,
-            } => {
-                self.give_back(minute, party, number)?;
-                Ok(Answer::Done)
-            }
+            } => self.give_back(minute, party, number).map(|_| Answer::Done),
             Call::Question { number } => Ok(Answer::Told(self.question(number))),
         }
     }

@@ -1,10 +1,9 @@
 // The live promises: which one a call is for, and which ones lapse.
-ghost use Rattle.std.specs.Prelude.{◌≡◌, ◌<◌, ◌≤◌, Some, vec_len, vec_capacity, slice_index_or, slice_set};
+ghost use Rattle.std.specs.Prelude.{◌≡◌, ◌≤◌, Some, vec_len, vec_capacity};
 ghost use Rattle.machine.specs.Machine.{promise_of, slot_of, lapsed as has_lapsed, standing as still_standing, kept as book_kept};
 ghost use Rattle.broker.specs.Bundles.{Rebooks};
-ghost use Rattle.broker.specs.Holds.{Found, HeldAt, as_taken};
-ghost use Rattle.broker.specs.View.{promise_view, live_view};
-ghost use Rattle.broker.specs.declared.held.Promise.{Promise as Held};
+ghost use Rattle.broker.specs.Holds.{Found, HeldAt};
+ghost use Rattle.broker.specs.Held.{promise_view, live_view};
 
 use crate::bundles::lift_claims;
 use crate::held::Promise;
@@ -12,22 +11,24 @@ use claims::{Party, PromiseNumber};
 use machine::{Event, Refusal, Slot};
 use resource::Resource;
 
-// The state of a live promise.
-fn slot(promise: &Promise) -> Slot
-    ensures { result ≡ slot_of (Some (promise_view promise.now)) }
-{
-    if promise.taken {
-        Slot::Taken
-    } else {
-        Slot::Promised
+impl Promise {
+    // Whether it is promised or taken.
+    fn slot(&self) -> Slot
+        ensures { result ≡ slot_of (Some (promise_view self.now)) }
+    {
+        match self.last {
+            Some(_) => Slot::Promised,
+            None => Slot::Taken,
+        }
     }
-}
 
-// Whether a promise runs out by a minute.
-fn lapses(promise: &Promise, clock: u32) -> bool
-    ensures { result ≡ has_lapsed clock (promise_view promise.now) }
-{
-    slot(promise).meets(Event::Lapse).is_some() & (promise.last <= clock as u64)
+    // Whether it runs out by a minute.
+    fn lapses(&self, clock: u32) -> bool
+        ensures { result ≡ has_lapsed clock (promise_view self.now) }
+    {
+        self.slot().meets(Event::Lapse).is_some()
+            && self.last.is_some_and(|last| last <= u64::from(clock))
+    }
 }
 
 // Ends each promise that runs out by a minute.
@@ -37,71 +38,46 @@ pub(crate) fn lapse<R: Resource>(live: &mut Vec<Promise>, resource: &mut R, cloc
     ensures stand { live_view live.new.items ≡ still_standing clock (live_view live.old.items) }
     ensures lifted { Rebooks R.Resource resource.old resource.new (book_kept clock (live_view live.old.items) (R.Resource.book resource.old)) }
 {
-    let mut i = 0;
-    while i < live.len() {
-        if lapses(&live[i], clock) {
-            let promise = live.remove(i);
-            lift_claims(resource, &promise);
-        } else {
-            i += 1;
+    for promise in live.iter() {
+        if promise.lapses(clock) {
+            lift_claims(resource, promise);
         }
     }
+    live.retain(|promise| !promise.lapses(clock));
 }
 
 // Where a promise stands among the live ones.
-pub(crate) fn position(live: &Vec<Promise>, number: PromiseNumber) -> Option<usize>
-    ensures { Found number.0 live.now.items result }
+pub(crate) fn position(live: &[Promise], number: PromiseNumber) -> Option<usize>
+    ensures { Found number.0 live.now result }
 {
-    for (i, promise) in live.iter().enumerate() {
-        if promise.number.0 == number.0 {
-            return Some(i);
-        }
-    }
-    None
+    live.iter().position(|promise| promise.number == number)
 }
 
 // What stands under a number.
-pub(crate) fn slot_under(live: &Vec<Promise>, number: PromiseNumber) -> Slot
-    ensures { result ≡ slot_of (promise_of number.0 (live_view live.now.items)) }
+pub(crate) fn slot_under(live: &[Promise], number: PromiseNumber) -> Slot
+    ensures { result ≡ slot_of (promise_of number.0 (live_view live.now)) }
 {
-    match position(live, number) {
-        None => Slot::Empty,
-        Some(i) => slot(&live[i]),
-    }
+    position(live, number).map_or(Slot::Empty, |i| live[i].slot())
 }
 
 // Where a promise of a party stands that an event fits, or why a call for it is refused.
 pub(crate) fn hold(
-    live: &Vec<Promise>,
+    live: &[Promise],
     party: Party,
     number: PromiseNumber,
     event: Event,
 ) -> Result<usize, Refusal>
-    ensures { HeldAt party.0 number.0 event live.now.items result }
+    ensures { HeldAt party.0 number.0 event live.now result }
 {
     if !party.is_known() {
         return Err(Refusal::NotAParty);
     }
-    let Some(i) = position(live, number) else {
-        return Err(Refusal::NotLive);
-    };
-    if live[i].party.0 != party.0 {
+    let i = position(live, number).ok_or(Refusal::NotLive)?;
+    if live[i].party != party {
         return Err(Refusal::NotYours);
     }
-    match slot(&live[i]).meets(event) {
-        None => Err(Refusal::WrongState),
-        Some(_) => Ok(i),
+    if live[i].slot().meets(event).is_none() {
+        return Err(Refusal::WrongState);
     }
-}
-
-// Marks the promise at a place as taken.
-pub(crate) fn mark_taken(live: &mut Vec<Promise>, i: usize)
-    requires { i < vec_len live.old }
-    ensures room { vec_capacity live.new ≡ vec_capacity live.old }
-    ensures count { vec_len live.new ≡ vec_len live.old }
-    ensures marked { (d : Held) → live_view live.new.items ≡ slice_set (live_view live.old.items) i (as_taken (promise_view (slice_index_or live.old.items i d))) }
-{
-    let promise = &mut live[i];
-    promise.taken = true;
-    promise.last = 0;
+    Ok(i)
 }

@@ -4,6 +4,7 @@
 pub use call::{Answer, Call, Units};
 pub use desk::Broker;
 pub use draft::Draft;
+pub use no_room::NoRoom;
 
 mod asking;
 mod bundles;
@@ -14,3 +15,4 @@ mod draft;
 mod drafting;
 mod held;
 mod holding;
+mod no_room;

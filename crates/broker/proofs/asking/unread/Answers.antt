@@ -1,22 +1,16 @@
-use Rattle.std.proofs.Common.{sym, ◌∙◌, arith}
-use Rattle.claims.specs.declared.Demand.{Demand}
-use Rattle.broker.proofs.Reading.{unread_more, unread_here, unread_all}
+use Rattle.std.proofs.Common.{◌≡◌, ◌+◌, sym, ap, ◌∙◌, subst, rules}
+use Rattle.std.specs.Option.{option_map}
+use Rattle.std.proofs.lemmas.Iterator.{YieldsList-from_slice}
+use Rattle.std.proofs.lemmas.Iterator.Search.{position_from_yields_List}
+use Rattle.broker.specs.Asks.{Unread}
+use Rattle.broker.specs.Drafts.{demands_of}
+use Rattle.broker.proofs.Reading.{strange, unread}
 use Rattle.broker.proofs.asking.unread.Goals as goal
 
-abbrev none : Demand
-none = record { shelf = 0; first = 0; second = 0 }
-
-pub returns-then-not-reads : goal.returns-then-not-reads
-returns-then-not-reads g c = λ s.
-    let r = g.R.Resource.rules c.args.resource.now in
-    (omega arith, sym (c.loop-j.invariant s) ∙ unread_here r c.args.draft.now c.loop-j.j none c.loop-j-test.true (sym (c.if-not-reads.ensures s)))
-
-pub loop-j-preserved : goal.loop-j-preserved
-loop-j-preserved g c = λ s.
-    let r = g.R.Resource.rules c.args.resource.now in
-    unread_more r c.args.draft.now c.loop-j.j none c.loop-j-test.true (sym (c.if-not-reads.ensures s)) ∙ c.loop-j.invariant s
-
 pub returns : goal.returns
-returns g c = λ s.
+returns g c =
     let r = g.R.Resource.rules c.args.resource.now in
-    sym (c.loop-j.invariant s) ∙ unread_all r c.args.draft.now c.loop-j.j c.loop-j-test.false
+    let ds = demands_of c.args.draft.now in
+    let is = position_from_yields_List (strange r) _ _ _ c.position.ensures.ran (YieldsList-from_slice ds cc) (λ x b q k. search rules) in
+    let next : c.map.result ≡ option_map (λ i. i + 1) c.position.result = search rules in
+    subst (λ o. Unread r ds o) (sym (next ∙ ap (option_map (λ i. i + 1)) is)) (unread r ds)

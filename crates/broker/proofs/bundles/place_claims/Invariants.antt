@@ -1,12 +1,14 @@
-use Rattle.std.proofs.Common.{◌≡◌}
+use Rattle.std.proofs.Common.{◌≡◌, ◌*◌}
+use Rattle.machine.specs.Limits.{most_demands}
 use Rattle.broker.specs.Bundles.{Ready}
+use Rattle.broker.specs.Drafts.{demands_of}
 use Rattle.broker.proofs.Bundling.{Placing}
 use Rattle.broker.proofs.bundles.place_claims.Given as goal
 
-abbrev pub invariant-loop-j : goal.invariant-loop-j
-invariant-loop-j g l =
+abbrev pub invariant-loop-place : goal.invariant-loop-place
+invariant-loop-place g l =
     let m = g.R.Resource in
-    m.sound l.initial.resource →
-    (m.sound l.resource) × (m.rules l.resource ≡ m.rules l.initial.resource) ×
-    (Ready (m.rules l.initial.resource) (m.book l.initial.resource) l.number.0 l.party.0 l.demands →
-    Placing (m.rules l.initial.resource) (m.book l.initial.resource) l.first l.party.0 l.demands l.j (m.book l.resource))
+    let ds = demands_of l.draft in
+    (m.rules l.resource ≡ m.rules l.initial.resource) ×
+    (Ready (m.rules l.initial.resource) (m.book l.initial.resource) l.number.0 l.party.0 ds →
+    Placing (m.rules l.initial.resource) (m.book l.initial.resource) (most_demands * l.number.0) l.party.0 ds l.place (m.book l.resource))

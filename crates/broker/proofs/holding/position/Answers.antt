@@ -1,24 +1,13 @@
-use Rattle.std.proofs.Common.{get_or, vec_items, ap, ◌∙◌}
-use Rattle.broker.proofs.Places.{seeks_more, seeks_stands, seeks_none}
+use Rattle.std.proofs.Common.{sym, subst, rules}
+use Rattle.std.proofs.lemmas.Iterator.{YieldsList-from_slice}
+use Rattle.std.proofs.lemmas.Iterator.Search.{position_from_yields_List}
+use Rattle.broker.specs.Holds.{Found}
+use Rattle.broker.proofs.Places.{numbered, found}
 use Rattle.broker.proofs.holding.position.Goals as goal
-
-pub returns-then-promise-number : goal.returns-then-promise-number
-returns-then-promise-number c =
-    let xs = vec_items c.args.live.now in
-    let x = c.promise-item.result in
-    let v = c.deref-promise-items.ensures.value in
-    let is = c.promise-item.is ∙ ap (λ ys. get_or ys c.loop-i.i x) v in
-    seeks_stands c.args.number.0 xs c.loop-i.i x (rw v at c.loop-i-test.true) is c.if-promise-number.true c.loop-i.invariant
-
-pub loop-i-preserved : goal.loop-i-preserved
-loop-i-preserved c =
-    let xs = vec_items c.args.live.now in
-    let x = c.promise-item.result in
-    let v = c.deref-promise-items.ensures.value in
-    let is = c.promise-item.is ∙ ap (λ ys. get_or ys c.loop-i.i x) v in
-    seeks_more c.args.number.0 xs c.loop-i.i x (rw v at c.loop-i-test.true) is c.if-promise-number.false c.loop-i.invariant
 
 pub returns : goal.returns
 returns c =
-    let v = c.deref-promise-items.ensures.value in
-    seeks_none c.args.number.0 (vec_items c.args.live.now) c.loop-i.i (rw v at c.loop-i-test.false) c.loop-i.invariant
+    let xs = c.args.live.now in
+    let n = c.args.number.0 in
+    let is = position_from_yields_List (numbered n) _ _ _ c.position.ensures.ran (YieldsList-from_slice xs cc) (λ x b q k. search rules) in
+    subst (λ o. Found n xs o) (sym is) (found n xs)
