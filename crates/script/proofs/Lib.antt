@@ -1,10 +1,10 @@
 pub mod Numbers
 pub mod Splits
 pub mod Triples
-pub mod Spelling
 pub mod Exits
 pub mod Once
 pub mod Fed
+pub mod Heads
 pub mod Turns
 pub mod Views
 pub mod Pinned

@@ -1,13 +1,11 @@
 -- A line reads in one way only.
-use Rattle.std.proofs.Common.{◌≡◌, ℕ, ◌*◌, cond, eqb, List, [], ◌∷◌, ◌++◌, length, get_or, drop, Ok, Err, decimal, sym, refl, ap, ◌∙◌, subst, inl, arith}
+use Rattle.std.proofs.Common.{◌≡◌, ℕ, cond, eqb, List, [], ◌∷◌, map, length, get_or, drop, Ok, Err, decimal, sym, refl, ap, ◌∙◌, subst, inl, arith}
 use Rattle.std.proofs.lemmas.Fmt.{decimal_injective}
-use Rattle.std.proofs.lemmas.List.{length-take-le}
 use Rattle.claims.specs.declared.Demand.{Demand}
 use Rattle.machine.specs.Machine.{Call as MachineCall}
 use Rattle.machine.specs.Machine.Call.{ask, take as take_up, release, give_back, question}
 use Rattle.broker.specs.declared.call.Call.{Call}
 use Rattle.broker.specs.declared.call.Call.TheVariants.{Ask, Take, Release, GiveBack, Question}
-use Rattle.broker.specs.declared.draft.Draft.{Draft}
 use Rattle.broker.specs.Calls.{call_of}
 use Rattle.broker.specs.Drafts.{demands_of}
 use Rattle.script.specs.declared.verbs.Verb.{Verb}
@@ -15,8 +13,8 @@ use Rattle.script.specs.declared.verbs.Verb.TheVariants as verbs
 use Rattle.script.specs.declared.faults.Unread.TheVariants.{Letter, Number, Count}
 use Rattle.script.specs.Format.{triples, verb_of, numbers_of, spelled, Fitting, ReadsAs, OneReading, SpelledIsRead}
 use Rattle.script.specs.Letters.{letter}
-use Rattle.script.specs.Spaced.{space, spaced, Small}
-use Rattle.script.proofs.Splits.{cut_once, decimal_free, spaced_opens}
+use Rattle.script.specs.Spaced.{spaced, Small}
+use Rattle.script.proofs.Splits.{parts, parts_spaced}
 use Rattle.script.proofs.Triples.{triples-length}
 
 abbrev verb_back : ℕ → Verb
@@ -32,16 +30,23 @@ back_letter verbs.Question = refl
 letter-same : (v w : Verb) → letter v ≡ letter w → v ≡ w
 letter-same v w e = sym (back_letter v) ∙ ap verb_back e ∙ back_letter w
 
-spaced-same : (ns ms : List ℕ) → Small ns → Small ms → spaced ns ≡ spaced ms → ns ≡ ms
-spaced-same [] [] s t e = refl
-spaced-same [] (m ∷ ms) s t e = let z : ◌≡◌ {A = ℕ} 0 1 = cc in absurd (omega arith)
-spaced-same (n ∷ ns) [] s t e = let z : ◌≡◌ {A = ℕ} 0 1 = cc in absurd (omega arith)
-spaced-same (n ∷ ns) (m ∷ ms) s t e =
-    let u : decimal n ++ spaced ns ≡ decimal m ++ spaced ms = cc in
-    let r = cut_once space _ _ _ _ u (decimal_free n s.0) (decimal_free m t.0) (spaced_opens ns) (spaced_opens ms) in
-    let one = decimal_injective n m (omega (arith, s.0)) (omega (arith, t.0)) r.0 in
-    let more = spaced-same ns ms s.1 t.1 r.1 in
+-- numbers that are written alike are the same
+written_once : (ns ms : List ℕ) → Small ns → Small ms → map decimal ns ≡ map decimal ms → ns ≡ ms
+written_once [] [] s t e = refl
+written_once [] (m ∷ ms) s t e = absurd (omega (arith, ap length e))
+written_once (n ∷ ns) [] s t e = absurd (omega (arith, ap length e))
+written_once (n ∷ ns) (m ∷ ms) s t e =
+    let d : decimal n ≡ decimal m = cc in
+    let f : map decimal ns ≡ map decimal ms = cc in
+    let one = decimal_injective n m (omega (arith, s.0)) (omega (arith, t.0)) d in
+    let more = written_once ns ms s.1 t.1 f in
     (λ i. one i ∷ more i)
+
+spaced-same : (ns ms : List ℕ) → Small ns → Small ms → spaced ns ≡ spaced ms → ns ≡ ms
+spaced-same ns ms s t e =
+    let parted : [] ∷ map decimal ns ≡ [] ∷ map decimal ms = sym (parts_spaced ns s) ∙ ap parts e ∙ parts_spaced ms t in
+    let f : map decimal ns ≡ map decimal ms = cc in
+    written_once ns ms s t f
 
 -- the demands, and the call, that numbers stand for
 abbrev demands_back : List ℕ → List Demand
@@ -71,11 +76,8 @@ back_call (Question n) = refl
 call_same : (c d : Call) → verb_of c ≡ verb_of d → numbers_of c ≡ numbers_of d → call_of c ≡ call_of d
 call_same c d v n = sym (back_call c) ∙ (λ i. call_back (v i) (n i)) ∙ back_call d
 
-draft_length : (d : Draft) → length (triples (demands_of d)) ≡ 3 * d.count
-draft_length d = triples-length (demands_of d) ∙ ap (λ n. 3 * n) (length-take-le d.count d.demands (omega (arith, d.whole, d.few)))
-
 fits : (c : Call) → Fitting (verb_of c) (length (numbers_of c))
-fits (Ask m p ms d) = (length (triples (demands_of d)), (d.count, d.few, draft_length d), omega arith)
+fits (Ask m p ms d) = (length (triples (demands_of d)), (length (demands_of d), d.few, triples-length (demands_of d)), omega arith)
 fits (Take m p n) = refl
 fits (Release m p n) = refl
 fits (GiveBack m p n) = refl

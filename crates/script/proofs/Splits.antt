@@ -1,143 +1,145 @@
--- The numbers of a line, read field by field.
-use Rattle.std.proofs.Common.{◌≡◌, ℕ, suc, ◌+◌, ◌-◌, ◌^◌, ◌<◌, ◌≤◌, List, [], ◌∷◌, ◌++◌, length, get_or, take, drop, set, decimal, sym, refl, ap, ◌∙◌, append_assoc, append-nil, add-zero, arith, length-drop, length-set, take-append-drop, length-take-le, get_or-drop, get_or-take}
-use Rattle.std.specs.List.{between}
-use Rattle.std.proofs.lemmas.List.{drop_more, drop_all, take_more_set, length_push, drop-drop}
-use Rattle.script.specs.Spaced.{spaced, Small, Holds}
-use Rattle.script.specs.Ends.{Ended}
+-- The numbers of a line, field by field: the parts between its spaces.
+use Rattle.std.proofs.Common.{◌≡◌, ℕ, ◌^◌, ◌<◌, false, eqb, List, [], ◌∷◌, ◌++◌, map, length, get_or, Some, None, Ok, Err, Option, decimal, Result, sym, refl, ap, ◌∙◌, subst, append-nil, arith, ne_eqb, is_ok, true, MatchResult, Bor}
+use Rattle.std.proofs.lemmas.Iterator.{YieldsList}
+use Rattle.std.specs.List.{All, slice_split, join_with_byte}
+use Rattle.std.proofs.lemmas.List.{append_assoc, length_push, map-append}
+use Rattle.std.proofs.lemmas.List.Elements.{All-from_get_or, All-push, All-from_recursion, recursion_from_All}
+use Rattle.std.proofs.lemmas.List.Splits.{slice_split_none, slice_split_at, join_with_byte-slice_split}
+use Rattle.std.specs.Prelude.{◌↔◌, IsOk, OnOk, OnErr}
+use Rattle.arrayvec.specs.ArrayVec.{ArrayVec}
 use Rattle.script.specs.Limits.{most_numbers}
+use Rattle.script.specs.Spaced.{space, spaced, Small}
 use Rattle.script.proofs.Numbers.{Unwritten, decimal_at}
 
--- no byte of xs is the mark
-abbrev pub Free : ℕ → List ℕ → Type 0
-Free mark [] = Unit {0}
-Free mark (x ∷ xs) = (x ≡ mark → ⊥) × Free mark xs
+-- the parts between the spaces
+abbrev pub parts : List ℕ → List (List ℕ)
+parts bytes = slice_split (λ b. eqb b space) bytes
 
--- us is empty, or begins with the mark
-abbrev pub Opens : ℕ → List ℕ → Type 0
-Opens mark [] = Unit {0}
-Opens mark (u ∷ us) = u ≡ mark
+decimal_whole : (n : ℕ) → n < 2 ^ 32 → All (λ b. eqb b space ≡ false) (decimal n)
+decimal_whole n small = All-from_get_or (λ b. eqb b space ≡ false) (decimal n) 0 (λ k l. ne_eqb (get_or (decimal n) k 0) space (λ (e : get_or (decimal n) k 0 ≡ 32). omega (arith, (decimal_at n k small l).0)))
 
-pub free_by_places : (mark : ℕ) (xs : List ℕ) → ((k : ℕ) → k < length xs → get_or xs k 0 ≡ mark → ⊥) → Free mark xs
-free_by_places mark [] h = tt
-free_by_places mark (x ∷ xs) h = (h 0 (omega arith), free_by_places mark xs (λ k l. h (suc k) (omega arith)))
+parts_after : (n : ℕ) (ns : List ℕ) → n < 2 ^ 32 → Small ns → parts (decimal n ++ spaced ns) ≡ decimal n ∷ map decimal ns
+parts_after n [] l s = ap parts (append-nil (decimal n)) ∙ slice_split_none _ (decimal n) (decimal_whole n l)
+parts_after n (m ∷ ms) l s = slice_split_at _ (decimal n) space (decimal m ++ spaced ms) (decimal_whole n l) refl ∙ ap (λ p. decimal n ∷ p) (parts_after m ms s.0 s.1)
 
-pub opens_by_place : (mark : ℕ) (us : List ℕ) → (0 < length us → get_or us 0 0 ≡ mark) → Opens mark us
-opens_by_place mark [] h = tt
-opens_by_place mark (u ∷ us) h = h (omega arith)
+-- the parts of a spelling: nothing before the first space, and then the numbers
+pub parts_spaced : (ns : List ℕ) → Small ns → parts (spaced ns) ≡ [] ∷ map decimal ns
+parts_spaced [] s = refl
+parts_spaced (n ∷ ns) s = ap (λ p. [] ∷ p) (parts_after n ns s.0 s.1)
 
-pub cut_once : (mark : ℕ) (xs ys us vs : List ℕ) → xs ++ us ≡ ys ++ vs → Free mark xs → Free mark ys → Opens mark us → Opens mark vs → (xs ≡ ys) × (us ≡ vs)
-cut_once mark [] [] us vs e fx fy ou ov = (refl, e)
-cut_once mark [] (y ∷ ys) [] vs e fx fy ou ov = let z : ◌≡◌ {A = ℕ} 0 1 = cc in absurd (omega arith)
-cut_once mark [] (y ∷ ys) (u ∷ us) vs e fx fy ou ov = let z : y ≡ mark = cc in absurd (fy.0 z)
-cut_once mark (x ∷ xs) [] us [] e fx fy ou ov = let z : ◌≡◌ {A = ℕ} 0 1 = cc in absurd (omega arith)
-cut_once mark (x ∷ xs) [] us (v ∷ vs) e fx fy ou ov = let z : x ≡ mark = cc in absurd (fx.0 z)
-cut_once mark (x ∷ xs) (y ∷ ys) us vs e fx fy ou ov =
-    let h : x ≡ y = cc in
-    let t : xs ++ us ≡ ys ++ vs = cc in
-    let r = cut_once mark xs ys us vs t fx.1 fy.1 ou ov in
-    let p : xs ≡ ys = r.0 in
-    (cc, r.1)
+joined : (n : ℕ) (ns : List ℕ) → join_with_byte space (decimal n ∷ map decimal ns) ≡ decimal n ++ spaced ns
+joined n [] = sym (append-nil (decimal n))
+joined n (m ∷ ms) = ap (λ l. decimal n ++ (space ∷ l)) (joined m ms)
 
-pub decimal_free : (n : ℕ) → n < 2 ^ 32 → Free 32 (decimal n)
-decimal_free n small = free_by_places 32 (decimal n) (λ k l e. omega (arith, (decimal_at n k small l).0))
+-- bytes with such parts are a spelling
+pub spaced_parts : (bytes ns : List ℕ) → parts bytes ≡ [] ∷ map decimal ns → bytes ≡ spaced ns
+spaced_parts bytes ns cut = sym (join_with_byte-slice_split space bytes) ∙ ap (join_with_byte space) cut ∙ go ns
+  where
+    go : (ns : List ℕ) → join_with_byte space ([] ∷ map decimal ns) ≡ spaced ns
+    go [] = refl
+    go (n ∷ ns) = ap (λ l. space ∷ l) (joined n ns)
 
-pub spaced_opens : (ns : List ℕ) → Opens 32 (spaced ns)
-spaced_opens [] = tt
-spaced_opens (n ∷ ns) = refl
+-- a part that is no number is no part of a spelling
+unspelled : (seen ns : List ℕ) (field : List ℕ) (left : List (List ℕ)) → Small ns → Unwritten field → map decimal ns ≡ map decimal seen ++ (field ∷ left) → ⊥
+unspelled [] [] field left s none e = absurd (omega (arith, ap length e))
+unspelled [] (n ∷ ns) field left s none e = let f : field ≡ decimal n = cc in none n s.0 f
+unspelled (m ∷ seen) [] field left s none e = absurd (omega (arith, ap length e))
+unspelled (m ∷ seen) (n ∷ ns) field left s none e = let f : map decimal ns ≡ map decimal seen ++ (field ∷ left) = cc in unspelled seen ns field left s.1 none f
 
-pub spaced_push : (ns : List ℕ) (n : ℕ) → spaced (ns ++ n ∷ []) ≡ spaced ns ++ (32 ∷ decimal n)
-spaced_push [] n = ap (λ l. 32 ∷ l) (append-nil (decimal n))
-spaced_push (m ∷ ns) n = ap (λ l. 32 ∷ l) (ap (λ l. decimal m ++ l) (spaced_push ns n) ∙ sym (append_assoc (decimal m) (spaced ns) (32 ∷ decimal n)))
+module _ (bytes : List ℕ) where
+  -- a spelling has nothing before its first space
+  pub no_space : (first : List ℕ) (left : List (List ℕ)) → parts bytes ≡ first ∷ left → 0 < length first → (ns : List ℕ) → Small ns → bytes ≡ spaced ns → ⊥
+  no_space first left cut some ns s w =
+      let e : first ∷ left ≡ [] ∷ map decimal ns = sym cut ∙ ap parts w ∙ parts_spaced ns s in
+      let f : first ≡ [] = cc in
+      omega (arith, ap length f)
 
-small_push : (ns : List ℕ) (n : ℕ) → Small ns → n < 2 ^ 32 → Small (ns ++ n ∷ [])
-small_push [] n h l = (l, tt)
-small_push (m ∷ ns) n h l = (h.0, small_push ns n h.1 l)
+  -- a spelling has a part
+  pub some_part : parts bytes ≡ [] → (ns : List ℕ) → Small ns → bytes ≡ spaced ns → ⊥
+  some_part none ns s w = omega (arith, ap length (sym none ∙ ap parts w ∙ parts_spaced ns s))
 
-module _ {bytes : List ℕ} {from mark end : ℕ} (h : Ended bytes from mark end) where
-  pub part_whole : drop from bytes ≡ between from end bytes ++ drop end bytes
-  part_whole =
-      let e : from + (end - from) ≡ end = omega (arith, h.after) in
-      sym (take-append-drop (end - from) (drop from bytes)) ∙ ap (λ l. between from end bytes ++ l) (drop-drop (end - from) from bytes ∙ ap (λ n. drop n bytes) e)
+  -- the numbers that are read before the parts that are left
+  pub record Seen (numbers : List ℕ) (left : List (List ℕ)) : Type 0 where
+    pub cut : parts bytes ≡ [] ∷ (map decimal numbers ++ left)
+    pub small : Small numbers
 
-  pub part_length : length (between from end bytes) ≡ end - from
-  part_length = length-take-le (end - from) (drop from bytes) (omega (arith, length-drop from bytes, h.within, h.after))
+  pub seen_none : (first : List ℕ) (left : List (List ℕ)) → parts bytes ≡ first ∷ left → length first ≡ 0 → Seen [] left
+  seen_none [] left cut none = record { cut = cut; small = tt }
+  seen_none (b ∷ first) left cut none = absurd (omega arith)
 
-  pub part_free : Free mark (between from end bytes)
-  part_free = free_by_places mark _ (λ k l e.
-      let w : k < end - from = omega (arith, part_length) in
-      h.free (from + k) (omega arith) (omega arith) (sym (get_or-drop from bytes k 0) ∙ sym (get_or-take (end - from) (drop from bytes) k 0 w) ∙ e))
+  module _ {numbers : List ℕ} {field : List ℕ} {left : List (List ℕ)} (seen : Seen numbers (field ∷ left)) where
+    pub no_number : Unwritten field → (ns : List ℕ) → Small ns → bytes ≡ spaced ns → ⊥
+    no_number none ns s w =
+        let e : [] ∷ (map decimal numbers ++ (field ∷ left)) ≡ [] ∷ map decimal ns = sym seen.cut ∙ ap parts w ∙ parts_spaced ns s in
+        let f : map decimal ns ≡ map decimal numbers ++ (field ∷ left) = cc in
+        unspelled numbers ns field left s none f
 
-  pub rest_opens : Opens mark (drop end bytes)
-  rest_opens = opens_by_place mark (drop end bytes) (λ l. get_or-drop end bytes 0 0 ∙ ap (λ i. get_or bytes i 0) (add-zero end) ∙ h.marked (omega (arith, length-drop end bytes)))
+    pub one_more : (n : ℕ) → n < 2 ^ 32 → field ≡ decimal n → Seen (numbers ++ n ∷ []) left
+    one_more n small is = record {
+      cut = seen.cut ∙ ap (λ l. [] ∷ l) (ap (λ f. map decimal numbers ++ (f ∷ left)) is ∙ sym (ap (λ l. l ++ left) (map-append decimal numbers (n ∷ [])) ∙ append_assoc (map decimal numbers) (decimal n ∷ []) left));
+      small = recursion_from_All _ _ (All-push (λ m. m < 2 ^ 32) numbers n (All-from_recursion (λ m. m < 2 ^ 32) numbers seen.small) small);
+    }
 
--- the loop's invariant: the numbers before `at` are read
-pub record Sofar (bytes : List ℕ) (at count : ℕ) (numbers : List ℕ) : Type 0 where
-  pub within : at ≤ length bytes
-  pub fewer : count ≤ at
-  pub room : length numbers ≡ most_numbers
-  pub seen : List ℕ
-  pub small : Small seen
-  pub written : bytes ≡ spaced seen ++ drop at bytes
-  pub many : count ≡ length seen
-  pub kept : count ≤ most_numbers → take count numbers ≡ seen
-  -- what the bytes may spell goes on here
-  pub left : (ms : List ℕ) → Small ms → bytes ≡ spaced ms → (ks : List ℕ) × Small ks × (drop at bytes ≡ spaced ks)
+  pub all_seen : {numbers : List ℕ} → Seen numbers [] → bytes ≡ spaced numbers
+  all_seen {numbers} seen = spaced_parts bytes numbers (seen.cut ∙ ap (λ l. [] ∷ l) (append-nil (map decimal numbers)))
 
-module _ {bytes : List ℕ} {at count : ℕ} {numbers : List ℕ} (old : Sofar bytes at count numbers) where
-  pub done : length bytes ≤ at → Holds numbers count bytes
-  done l = record {
-    all = old.seen;
-    small = old.small;
-    written = old.written ∙ ap (λ l. spaced old.seen ++ l) (drop_all at bytes l) ∙ append-nil _;
-    many = old.many;
-    kept = λ k. old.kept (omega (arith, old.room));
-  }
+-- what is kept of the numbers that are read: all of them, or as many as there is room for
+abbrev pub Kept : {T E : Type 0} → Result T E → List ℕ → List ℕ → Type 0
+Kept kept room numbers = MatchResult kept (λ _. room ≡ numbers) (λ _. (length room ≡ most_numbers) × (most_numbers < length numbers))
 
-  -- where more bytes are left, they begin with a space and a number
-  next_field : (ms : List ℕ) → Small ms → bytes ≡ spaced ms → at < length bytes → (n : ℕ) × (ks : List ℕ) × (n < 2 ^ 32) × Small ks × (drop at bytes ≡ 32 ∷ (decimal n ++ spaced ks))
-  next_field ms s e l = go (old.left ms s e)
-    where
-      go : (ks : List ℕ) × Small ks × (drop at bytes ≡ spaced ks) → (n : ℕ) × (ks : List ℕ) × (n < 2 ^ 32) × Small ks × (drop at bytes ≡ 32 ∷ (decimal n ++ spaced ks))
-      go ([], s, e) = absurd (omega (arith, ap length e, length-drop at bytes))
-      go (k ∷ ks, s, e) = (k, ks, s.0, s.1, e)
+-- what a call of `next` that gives a part leaves
+pub one_part : {S : Type 0} {steps : S → Option (Bor (List ℕ)) → S → Type 0} {s t : S} {x : Bor (List ℕ)} (left : List (List ℕ)) → YieldsList steps (λ p. p.now) s left → steps s (Some x) t → (rest : List (List ℕ)) × (left ≡ x.now ∷ rest) × YieldsList steps (λ p. p.now) t rest
+one_part [] gives step = absurd (gives.runs _ _ step)
+one_part (y ∷ rest) gives step = let m = gives.runs.1 _ _ step in (rest, ap (λ z. z ∷ rest) (sym m.0), record { runs = m.1 })
 
-  pub no_space : at < length bytes → (get_or bytes at 0 ≡ 32 → ⊥) → (ms : List ℕ) → Small ms → bytes ≡ spaced ms → ⊥
-  no_space l other ms s e =
-      let f = next_field ms s e l in
-      let d = drop_more bytes at 0 l in
-      let g = f.4 in
-      other (cc)
+-- nothing is left where no part comes
+pub no_part : {S : Type 0} {steps : S → Option (Bor (List ℕ)) → S → Type 0} {s t : S} (left : List (List ℕ)) → YieldsList steps (λ p. p.now) s left → steps s None t → left ≡ []
+no_part [] gives step = refl
+no_part (y ∷ rest) gives step = absurd (gives.runs.0 _ step)
 
-  module _ {end : ℕ} (l : at < length bytes) (space : get_or bytes at 0 ≡ 32) (cut : Ended bytes (at + 1) 32 end) where
-    one_field : (ms : List ℕ) → Small ms → bytes ≡ spaced ms → (n : ℕ) × (ks : List ℕ) × (n < 2 ^ 32) × Small ks × (between (at + 1) end bytes ≡ decimal n) × (drop end bytes ≡ spaced ks)
-    one_field ms s e =
-        let f = next_field ms s e l in
-        let d = drop_more bytes at 0 l in
-        let g = f.4 in
-        let t : drop (at + 1) bytes ≡ decimal f.0 ++ spaced f.1 = cc in
-        let r = cut_once 32 _ _ _ _ (sym (part_whole cut) ∙ t) (part_free cut) (decimal_free f.0 f.2) (rest_opens cut) (spaced_opens f.1) in
-        (f.0, f.1, f.2, f.3, r.0, r.1)
+-- the loop's invariant: so many numbers are read, and these parts are left
+pub record Sofar {S T E : Type 0} (steps : S → Option (Bor (List ℕ)) → S → Type 0) (bytes : List ℕ) (fields : S) (kept : Result T E) (room : List ℕ) : Type 0 where
+  pub numbers : List ℕ
+  pub left : List (List ℕ)
+  pub seen : Seen bytes numbers left
+  pub gives : YieldsList steps (λ p. p.now) fields left
+  pub stored : Kept kept room numbers
 
-    pub no_number : Unwritten (between (at + 1) end bytes) → (ms : List ℕ) → Small ms → bytes ≡ spaced ms → ⊥
-    no_number none ms s e = let f = one_field ms s e in none f.0 f.2 f.4
+module _ {S T E : Type 0} {steps : S → Option (Bor (List ℕ)) → S → Type 0} {bytes : List ℕ} {fields next : S} {kept : Result T E} {room : List ℕ} (was : Sofar steps bytes fields kept room) where
+  module _ (field : Bor (List ℕ)) (step : steps fields (Some field) next) where
+    cut : (rest : List (List ℕ)) × (was.left ≡ field.now ∷ rest) × YieldsList steps (λ p. p.now) next rest
+    cut = one_part was.left was.gives step
 
-    pub one_more : (n : ℕ) (after : List ℕ) → n < 2 ^ 32 → between (at + 1) end bytes ≡ decimal n → after ≡ set numbers count n → Sofar bytes end (count + 1) after
-    one_more n after small is put =
-        let more = cut.after in
-        record {
-          within = cut.within;
-          fewer = omega (arith, old.fewer);
-          room = ap length put ∙ length-set numbers count n ∙ old.room;
-          seen = old.seen ++ n ∷ [];
-          small = small_push old.seen n old.small small;
-          written =
-              old.written
-              ∙ ap (λ l. spaced old.seen ++ l) (drop_more bytes at 0 l ∙ (λ i. space i ∷ (part_whole cut ∙ ap (λ l. l ++ drop end bytes) is) i))
-              ∙ sym (append_assoc (spaced old.seen) (32 ∷ decimal n) (drop end bytes))
-              ∙ ap (λ l. l ++ drop end bytes) (sym (spaced_push old.seen n));
-          many = omega (arith, old.many, length_push old.seen n);
-          kept = λ few.
-              let room = old.room in
-              ap (λ l. take (count + 1) l) put ∙ take_more_set numbers count n (omega arith) ∙ ap (λ l. l ++ n ∷ []) (old.kept (omega arith));
-          left = λ ms s e. let f = one_field ms s e in (f.1, f.3, f.5);
-        }
+    seen : Seen bytes was.numbers (field.now ∷ cut.0)
+    seen = subst (Seen bytes was.numbers) cut.1 was.seen
+
+    pub unread : Unwritten field.now → (ns : List ℕ) → Small ns → bytes ≡ spaced ns → ⊥
+    unread none = no_number bytes seen none
+
+    pub one_read : {T' E' : Type 0} (n : ℕ) (kept' : Result T' E') (room' : List ℕ) → n < 2 ^ 32 → field.now ≡ decimal n → Kept kept' room' (was.numbers ++ n ∷ []) → Sofar steps bytes next kept' room'
+    one_read n kept' room' small is stored = record {
+      numbers = was.numbers ++ n ∷ [];
+      left = cut.0;
+      seen = one_more bytes seen n small is;
+      gives = cut.2;
+      stored = stored;
+    }
+
+  pub all_read : steps fields None next → Small was.numbers × (bytes ≡ spaced was.numbers)
+  all_read step = (was.seen.small, all_seen bytes (subst (Seen bytes was.numbers) (no_part was.left was.gives step) was.seen))
+
+-- one number more is kept, if there is room
+pub keep_more : {T E T' E' : Type 0} (kept : Result T E) (kept' : Result T' E') (room room' : ArrayVec ℕ) (numbers : List ℕ) (n : ℕ) → Kept kept room.items numbers → (IsOk kept' ↔ (length room.items < most_numbers)) → OnOk kept' (room'.items ≡ room.items ++ n ∷ []) → OnErr kept' (room' ≡ room) → OnErr kept' (length room.items ≡ most_numbers) → Kept kept' room'.items (numbers ++ n ∷ [])
+keep_more (Ok a) (Ok b) room room' numbers n same fits put stands full = put ∙ ap (λ l. l ++ n ∷ []) same
+keep_more (Ok a) (Err f) room room' numbers n same fits put stands full = (ap (λ v. length v.items) stands ∙ full, omega (arith, ap length same, full, length_push numbers n))
+keep_more (Err e) (Ok b) room room' numbers n (full, more) fits put stands _ = absurd (omega (arith, full, fits.0 refl))
+keep_more (Err e) (Err f) room room' numbers n (full, more) fits put stands _ = (ap (λ v. length v.items) stands ∙ full, omega (arith, more, length_push numbers n))
+
+-- all of them are kept where the last was, and else there are too many
+pub all_kept : {T E : Type 0} (kept : Result T E) (room numbers : List ℕ) → is_ok kept ≡ true → Kept kept room numbers → room ≡ numbers
+all_kept (Ok x) room numbers ok same = same
+all_kept (Err e) room numbers ok h = absurd (let z : ◌≡◌ {A = ℕ} 0 1 = cc in omega arith)
+
+pub too_many : {T E : Type 0} (kept : Result T E) (room numbers : List ℕ) → is_ok kept ≡ false → Kept kept room numbers → most_numbers < length numbers
+too_many (Ok x) room numbers bad same = absurd (let z : ◌≡◌ {A = ℕ} 0 1 = cc in omega arith)
+too_many (Err e) room numbers bad (full, more) = more

@@ -1,8 +1,9 @@
 -- A draft is read demand by demand, three numbers for each.
-use Rattle.std.proofs.Common.{◌≡◌, ℕ, ◌+◌, ◌*◌, ◌<◌, ◌≤◌, ltb, List, [], ◌∷◌, ◌++◌, length, get_or, take, Some, None, Result, sym, refl, ap, ◌∙◌, ⊎_elim, append_assoc, arith}
+use Rattle.std.proofs.Common.{◌≡◌, ℕ, zero, suc, drop, get_or-take, get_or-drop, ◌+◌, ◌*◌, ◌<◌, ◌≤◌, ltb, List, [], ◌∷◌, ◌++◌, length, get_or, take, Some, None, Result, sym, refl, ap, ◌∙◌, ⊎_elim, append_assoc, arith}
 use Rattle.std.specs.Result.{result_ok}
 use Rattle.std.proofs.lemmas.List.{take_more, length-take-le}
 use Rattle.std.proofs.lemmas.Bool.{cases_lt, lt-ltb, le-ltb, cond-true, cond-false}
+use Rattle.std.specs.Simd.{first_chunks}
 use Rattle.claims.specs.declared.Demand.{Demand}
 use Rattle.machine.specs.declared.Refusal.{Refusal}
 use Rattle.machine.specs.Limits.{most_demands}
@@ -28,6 +29,24 @@ take_three xs n l =
     ∙ ap (λ l. l ++ get_or xs (n + 2) 0 ∷ []) (ap (λ m. take m xs) (sym p) ∙ b ∙ ap (λ l. l ++ get_or xs (n + 1) 0 ∷ []) a)
     ∙ append_assoc (take n xs ++ get_or xs n 0 ∷ []) (get_or xs (n + 1) 0 ∷ []) (get_or xs (n + 2) 0 ∷ [])
     ∙ append_assoc (take n xs) (get_or xs n 0 ∷ []) (get_or xs (n + 1) 0 ∷ get_or xs (n + 2) 0 ∷ [])
+
+-- the numbers of the chunks of three
+chunk_item : (k : ℕ) (xs : List ℕ) (i j : ℕ) (d : List ℕ) → i < k → j < 3 → get_or (get_or (first_chunks 3 k xs) i d) j 0 ≡ get_or xs (3 * i + j) 0
+chunk_item zero xs i j d l m = absurd (omega arith)
+chunk_item (suc k) xs zero j d l m = let n : j ≡ 3 * 0 + j = omega arith in get_or-take 3 xs j 0 m ∙ ap (λ m. get_or xs m 0) n
+chunk_item (suc k) xs (suc i) j d l m =
+    let n : 3 + (3 * i + j) ≡ 3 * suc i + j = omega arith in
+    chunk_item k (drop 3 xs) i j d (omega arith) m ∙ get_or-drop 3 xs (3 * i + j) 0 ∙ ap (λ m. get_or xs m 0) n
+
+-- the demand that such a chunk is
+pub chunk_demand : (numbers : List ℕ) (chunks : List (List ℕ)) (k i : ℕ) → chunks ≡ first_chunks 3 k numbers → i < k
+    → ◌≡◌ {A = Demand} (record { shelf = get_or (get_or chunks i []) 0 0; first = get_or (get_or chunks i []) 1 0; second = get_or (get_or chunks i []) 2 0 }) (record { shelf = get_or numbers (3 * i) 0; first = get_or numbers (3 * i + 1) 0; second = get_or numbers (3 * i + 2) 0 })
+chunk_demand numbers chunks k i is l =
+    let start : 3 * i + 0 ≡ 3 * i = omega arith in
+    let a = ap (λ cs. get_or (get_or cs i []) 0 0) is ∙ chunk_item k numbers i 0 [] l (omega arith) ∙ ap (λ m. get_or numbers m 0) start in
+    let b = ap (λ cs. get_or (get_or cs i []) 1 0) is ∙ chunk_item k numbers i 1 [] l (omega arith) in
+    let c = ap (λ cs. get_or (get_or cs i []) 2 0) is ∙ chunk_item k numbers i 2 [] l (omega arith) in
+    (λ t. record { shelf = a t; first = b t; second = c t })
 
 module _ (numbers : List ℕ) (ds : List Demand) (i : ℕ) (more : 3 * i + 3 ≤ length numbers) (old : triples ds ≡ take (3 * i) numbers) (r : Result (Unit {0}) Refusal) (answer : r ≡ push_answer ds) where
   -- as many demands as were read

@@ -1,6 +1,5 @@
 pub mod Limits
 pub mod Letters
-pub mod Ends
 pub mod Spaced
 pub mod Format
 pub mod Faults

@@ -8,7 +8,7 @@ use Rattle.broker.specs.declared.call.Answer.{Answer}
 use Rattle.broker.specs.declared.call.Call.{Call}
 use Rattle.broker.specs.declared.desk.Broker.{Broker}
 use Rattle.broker.specs.Calls.{call_of, answer_of}
-use Rattle.broker.specs.Steps.{Sound, Steps}
+use Rattle.broker.specs.Steps.{Steps}
 use Rattle.broker.specs.View.{view}
 use Rattle.script.specs.declared.faults.ScriptFault.{ScriptFault}
 use Rattle.script.specs.declared.faults.ScriptFault.TheVariants.{Unread, Refused}
@@ -40,14 +40,13 @@ by_broker m b call words b' = (answer : MachineAnswer) × Steps m b (call_of cal
 abbrev pub by_machine : Rules → State → Call → List ℕ → State → Type 0
 by_machine rules s call words t = (answer : MachineAnswer) × (◌≡◌ {A = State × MachineAnswer} (t, answer) (step rules s (call_of call))) × (words ≡ worded answer)
 
--- a script: the rows are added to what was written, and those of a sound broker are the machine's
+-- a script: the rows are added to what was written, and they are the machine's
 pub record Runs {X : Type 0} (m : Ghosts X) {T E : Type 0} (b : Broker X m) (script old : List ℕ) (r : Result T E) (new : List ℕ) (b' : Broker X m) : Type 0 where
   pub rows : List ℕ
   pub added : new ≡ old ++ rows
   pub told : Settled (by_broker m) r b script rows b'
-  pub machine : Sound m b → Settled (by_machine (m.rules b.resource)) r (view m b) script rows (view m b')
-  pub kept : Sound m b → Sound m b'
-  pub same : Sound m b → m.rules b'.resource ≡ m.rules b.resource
+  pub machine : Settled (by_machine (m.rules b.resource)) r (view m b) script rows (view m b')
+  pub same : m.rules b'.resource ≡ m.rules b.resource
 
 -- over the same rules, from the same state, the same lines have the same rows and lead to the same state
 abbrev pub RowsArePinned : Type 0

@@ -3,15 +3,15 @@ ghost use Rattle.script.specs.Faults.{unread_number, fault_number, at_line, unre
 
 use machine::Refusal;
 
-// What is wrong with a line that is not read.
+// What is wrong with a line that is not read: each fault, and the number by which it is told.
 #[derive(Clone, Copy)]
 pub enum Unread {
     // its first byte is no call's letter
-    Letter,
+    Letter = 33,
     // a further field is not one space and a number
-    Number,
+    Number = 34,
     // it has too few fields, or too many
-    Count,
+    Count = 35,
 }
 
 impl Unread {
@@ -19,11 +19,7 @@ impl Unread {
     pub fn number(self) -> u8
         ensures { result ≡ unread_number self }
     {
-        match self {
-            Unread::Letter => 33,
-            Unread::Number => 34,
-            Unread::Count => 35,
-        }
+        self as u8
     }
 }
 
@@ -38,10 +34,7 @@ pub struct OnLine<E> {
 pub(crate) fn on_line<T, E>(line: u32, res: Result<T, E>) -> Result<T, OnLine<E>>
     ensures { result ≡ at_line line res }
 {
-    match res {
-        Ok(value) => Ok(value),
-        Err(fault) => Err(OnLine { line, fault }),
-    }
+    res.map_err(|fault| OnLine { line, fault })
 }
 
 // Why a script, or a line of it, is turned away.
@@ -68,15 +61,17 @@ impl ScriptFault {
     }
 }
 
-// What is wrong with a line that is not read, with its line.
+// What is wrong with a line that is not read, with its line. Faults become the script's by `From` and `?`, as a rule of
+// the project wants.
 impl From<OnLine<Unread>> for ScriptFault {
     ghost from_gives = { λ at fault. fault ≡ unread_at at };
 
     fn from(at: OnLine<Unread>) -> ScriptFault {
-        ScriptFault::Unread {
-            line: at.line,
-            unread: at.fault,
-        }
+        let OnLine {
+            line,
+            fault: unread,
+        } = at;
+        ScriptFault::Unread { line, unread }
     }
 }
 
@@ -85,9 +80,10 @@ impl From<OnLine<Refusal>> for ScriptFault {
     ghost from_gives = { λ at fault. fault ≡ refused_at at };
 
     fn from(at: OnLine<Refusal>) -> ScriptFault {
-        ScriptFault::Refused {
-            line: at.line,
-            refusal: at.fault,
-        }
+        let OnLine {
+            line,
+            fault: refusal,
+        } = at;
+        ScriptFault::Refused { line, refusal }
     }
 }

@@ -10,6 +10,7 @@ pub use whole::{
 
 mod faults;
 mod fields;
+mod lines;
 mod reader;
 mod rows;
 mod verbs;

@@ -4,7 +4,7 @@ ghost use Rattle.script.specs.Format.{triples, verb_of, numbers_of, Drafted, Fit
 
 use crate::faults::Unread;
 use crate::fields::{DEMAND_SIZE, read_fields};
-use crate::verbs::{Verb, from_letter};
+use crate::verbs::Verb;
 use broker::{Call, Draft};
 use claims::{Demand, Party, PromiseNumber};
 
@@ -12,23 +12,24 @@ use claims::{Demand, Party, PromiseNumber};
 fn read_draft(numbers: &[u32]) -> Option<Draft>
     ensures { MatchOption result (Drafted (length numbers.now) → ⊥) (λ d. triples (demands_of d) ≡ numbers.now) }
 {
-    if numbers.len() % DEMAND_SIZE != 0 {
+    let (demands, rest) = numbers.as_chunks::<DEMAND_SIZE>();
+    if !rest.is_empty() {
         return None;
     }
     let mut draft = Draft::new();
-    for i in 0..numbers.len() / DEMAND_SIZE {
-        let at = DEMAND_SIZE * i;
+    for [shelf, first, second] in demands {
         let demand = Demand {
-            shelf: numbers[at],
-            first: numbers[at + 1],
-            second: numbers[at + 2],
+            shelf: *shelf,
+            first: *first,
+            second: *second,
         };
         draft.push(demand).ok()?;
     }
     Some(draft)
 }
 
-// The call of a verb with these numbers, if it has so many.
+// The call of a verb with these numbers, if it has so many. Three calls have the same three numbers, and each is a case
+// of its own in the broker's `Call`.
 fn read_call(verb: Verb, numbers: &[u32]) -> Option<Call>
     ensures { MatchOption result (Fitting verb (length numbers.now) → ⊥) (λ c. (verb_of c ≡ verb) × (numbers_of c ≡ numbers.now)) }
 {
@@ -65,13 +66,10 @@ fn read_call(verb: Verb, numbers: &[u32]) -> Option<Call>
 pub fn read_line(line: &[u8]) -> Result<Call, Unread>
     ensures { ReadsAs line.now result }
 {
-    if line.is_empty() {
-        return Err(Unread::Letter);
-    }
-    let verb = from_letter(char::from(line[0])).ok_or(Unread::Letter)?;
-    let fields = read_fields(&line[1..]).ok_or(Unread::Number)?;
-    let numbers = fields.as_slice().ok_or(Unread::Count)?;
-    read_call(verb, numbers).ok_or(Unread::Count)
+    let (first, rest) = line.split_first().ok_or(Unread::Letter)?;
+    let verb = Verb::try_from(char::from(*first))?;
+    let numbers = read_fields(rest)?;
+    read_call(verb, numbers.as_slice()).ok_or(Unread::Count)
 }
 
 // The format is exact: a line reads in one way only, and the line of a call is read as that call.

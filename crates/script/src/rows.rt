@@ -10,17 +10,17 @@ use machine::Refusal;
 use std::alloc::AllocError;
 use std::fmt;
 
-// The units that a taking hands over, each after a space.
+// The units that a taking hands over, each after a space. They are of another crate, as the answers and refusals below
+// are, and are printed here in a type of this one.
 #[derive(Clone, Copy)]
-struct Handed(Units);
+struct Handed<'a>(&'a Units);
 
-impl fmt::Display for Handed {
-    ghost output = { λ u. Some (spaced (units_of u.0)) };
+impl<'a> fmt::Display for Handed<'a> {
+    ghost output = { λ u. Some (spaced (units_of u.0.now)) };
 
     fn fmt<W: fmt::Write>(&self, f: &mut fmt::Formatter<W>) -> fmt::Result {
-        for i in 0..self.0.count {
-            let unit = self.0.items[i].0;
-            write!(f, " {unit}")?;
+        for unit in self.0.as_slice() {
+            write!(f, " {}", unit.0)?;
         }
         Ok(())
     }
@@ -28,26 +28,17 @@ impl fmt::Display for Handed {
 
 // The word for an answer, and its numbers, each after a space.
 #[derive(Clone, Copy)]
-struct Told(Answer);
+struct Told<'a>(&'a Answer);
 
-impl fmt::Display for Told {
-    ghost output = { λ a. Some (worded (told_by a.0)) };
+impl<'a> fmt::Display for Told<'a> {
+    ghost output = { λ a. Some (worded (told_by a.0.now)) };
 
     fn fmt<W: fmt::Write>(&self, f: &mut fmt::Formatter<W>) -> fmt::Result {
         match self.0 {
-            Answer::Granted(number) => {
-                let number = number.0;
-                write!(f, " ok {number}")
-            }
-            Answer::Handed(units) => {
-                let units = Handed(units);
-                write!(f, " ok{units}")
-            }
+            Answer::Granted(number) => write!(f, " ok {}", number.0),
+            Answer::Handed(units) => write!(f, " ok{}", Handed(units)),
             Answer::Done => write!(f, " ok"),
-            Answer::Told(slot) => {
-                let state = slot.number();
-                write!(f, " ok {state}")
-            }
+            Answer::Told(slot) => write!(f, " ok {}", slot.number()),
         }
     }
 }
@@ -62,10 +53,11 @@ impl fmt::Display for Details {
     fn fmt<W: fmt::Write>(&self, f: &mut fmt::Formatter<W>) -> fmt::Result {
         match self.0 {
             Refusal::Unreadable(position) => write!(f, " {position}"),
-            Refusal::NotCarried(position, fault) => {
-                let cause = fault.cause.number();
-                write!(f, " {position} {cause}")
-            }
+            Refusal::NotCarried(position, fault) => write!(
+                f,
+                " {position} {}",
+                fault.cause.number()
+            ),
             Refusal::NotAParty
             | Refusal::DraftSize
             | Refusal::MinutesOutside
@@ -83,13 +75,14 @@ impl fmt::Display for ScriptFault {
     ghost output = { λ fault. Some (decimal (fault_number fault) ++ spaced (fault_values fault)) };
 
     fn fmt<W: fmt::Write>(&self, f: &mut fmt::Formatter<W>) -> fmt::Result {
-        let number = self.number();
         match self {
-            ScriptFault::TooLong | ScriptFault::Unread { .. } => write!(f, "{number}"),
-            ScriptFault::Refused { refusal, .. } => {
-                let details = Details(*refusal);
-                write!(f, "{number}{details}")
-            }
+            ScriptFault::TooLong | ScriptFault::Unread { .. } => write!(f, "{}", self.number()),
+            ScriptFault::Refused { refusal, .. } => write!(
+                f,
+                "{}{}",
+                refusal.number(),
+                Details(*refusal)
+            ),
         }
     }
 }
@@ -104,10 +97,7 @@ pub fn push_row(
 {
     let alloc = *out.allocator();
     let row = match answer {
-        Ok(answer) => {
-            let told = Told(*answer);
-            format!(in alloc; "{n}{told}\n")?
-        }
+        Ok(answer) => format!(in alloc; "{n}{}\n", Told(answer))?,
         Err(fault) => format!(in alloc; "{n} no {fault}\n")?,
     };
     out.push_str(row.as_str())

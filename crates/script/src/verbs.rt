@@ -1,5 +1,6 @@
-ghost use Rattle.std.specs.Prelude.{◌≡◌, MatchOption, ◌≢◌};
-ghost use Rattle.script.specs.Letters.{letter};
+ghost use Rattle.script.specs.Letters.{ReadAsLetter};
+
+use crate::faults::Unread;
 
 // What a line asks for, by its first letter.
 #[derive(Clone, Copy)]
@@ -12,15 +13,19 @@ pub(crate) enum Verb {
 }
 
 // The verb of a letter, if it is one's.
-pub(crate) fn from_letter(first: char) -> Option<Verb>
-    ensures { MatchOption result ((v : Verb) → letter v ≢ first) (λ v. letter v ≡ first) }
-{
-    match first {
-        'a' => Some(Verb::Ask),
-        't' => Some(Verb::Take),
-        'r' => Some(Verb::Release),
-        'g' => Some(Verb::GiveBack),
-        'q' => Some(Verb::Question),
-        _ => None,
+impl TryFrom<char> for Verb {
+    type Error = Unread;
+
+    ghost try_from_gives = { λ first verb. ReadAsLetter first verb };
+
+    fn try_from(first: char) -> Result<Verb, Unread> {
+        match first {
+            'a' => Ok(Verb::Ask),
+            't' => Ok(Verb::Take),
+            'r' => Ok(Verb::Release),
+            'g' => Ok(Verb::GiveBack),
+            'q' => Ok(Verb::Question),
+            _ => Err(Unread::Letter),
+        }
     }
 }

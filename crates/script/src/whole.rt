@@ -3,7 +3,7 @@ ghost use Rattle.script.specs.Lines.{LinesAreTheScript};
 ghost use Rattle.script.specs.Runs.{AnswersLine, RowOfLine, Runs, RowsArePinned};
 
 use crate::faults::{ScriptFault, on_line};
-use crate::fields::end_of;
+use crate::lines::Lines;
 use crate::reader::read_line;
 use crate::rows::push_row;
 use broker::{Answer, Broker};
@@ -12,9 +12,6 @@ use std::alloc::AllocError;
 
 // The longest script that is looked at.
 pub const MOST_BYTES: usize = 65535;
-
-// What ends a line.
-const LINE_FEED: u8 = b'\n';
 
 // Reads line n, and has the broker deal with its call.
 pub fn answer_line<R: Resource>(
@@ -53,13 +50,8 @@ pub fn answer_script<R: Resource>(
     if script.len() > MOST_BYTES {
         return push_row(out, 0, &Err(ScriptFault::TooLong));
     }
-    let mut n = 0u32;
-    let mut at = 0usize;
-    while at < script.len() {
-        let end = end_of(script, at, LINE_FEED);
-        n += 1;
-        row_of_line(broker, n, &script[at..end], out)?;
-        at = end + 1;
+    for (n, line) in (1u32..).zip(Lines(script)) {
+        row_of_line(broker, n, line, out)?;
     }
     Ok(())
 }
