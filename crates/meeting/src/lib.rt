@@ -5,8 +5,8 @@ ghost use Rattle.std.specs.Prelude.{◌≡◌, IfOk};
 ghost use Rattle.meeting.specs.Stock.{Stocked, Opens};
 
 use broker::Broker;
-use claims::{LAST_PARTY, PromiseNumber};
-use compound::{Bank, Quota};
+use claims::PromiseNumber;
+use compound::{Bank, PARTIES, Quota};
 use goods::{Named, Pool};
 use std::alloc::{AllocError, Global};
 
@@ -26,8 +26,6 @@ pub const TABLES: u32 = 4;
 // How many units each party may have.
 pub const UNITS_EACH: u32 = 8;
 
-const PARTIES: usize = LAST_PARTY as usize;
-
 // The number of the first promise.
 pub const FIRST_NUMBER: u32 = 1;
 
@@ -46,8 +44,5 @@ pub fn open_meeting(heap: Global) -> Result<Broker<Stock>, AllocError>
     ensures { IfOk result Opens }
 {
     let stock = open_stock(heap)?;
-    match Broker::new(heap, stock, PromiseNumber(FIRST_NUMBER)) {
-        Ok(broker) => Ok(broker),
-        Err((error, _)) => Err(error),
-    }
+    Ok(Broker::new(heap, stock, PromiseNumber(FIRST_NUMBER))?)
 }

@@ -17,10 +17,7 @@ fn some(shelf: u32, first: u32) -> Demand {
 
 // The number of a fault, and 0 where there is none.
 fn told<T: Drop>(res: Result<T, Fault>) -> u8 {
-    match res {
-        Ok(_) => 0,
-        Err(fault) => fault.cause.number(),
-    }
+    res.err().map_or(0, |fault| fault.cause.number())
 }
 
 // The refusals of any resource that reads this demand.
@@ -70,37 +67,31 @@ fn try_closed(rt: &HostRuntime) -> io::Result<()> {
     let refused = told(quota.place(ClaimKey(5), Party(1), some(1, 1)));
     println!(rt;
         "a quota over a claim: placed {placed}, reads {read}, claims {count}, refuses {refused}"
-    )?;
-    Ok(())
+    )
 }
 
 // A broker over a pool that has a claim already: its numbers are spent.
 fn try_spent(rt: &HostRuntime) -> io::Result<()> {
     let mut pool = Pool::new(rt.alloc(), 1, 6)?;
     let _ = pool.place(ClaimKey(4), Party(1), some(1, 1));
-    let Ok(mut broker) = Broker::new(rt.alloc(), pool, PromiseNumber(1)) else {
-        return Err(AllocError.into());
-    };
+    let mut broker = Broker::new(rt.alloc(), pool, PromiseNumber(1)).map_err(AllocError::from)?;
     let mut draft = Draft::new();
     let _ = draft.push(some(1, 1));
     match broker.ask(0, Party(1), 10, draft) {
         Ok(_) => println!(rt; "a broker over a claim: granted"),
-        Err(refusal) => {
-            let number = refusal.number();
-            println!(rt; "a broker over a claim: {number}")
-        }
+        Err(refusal) => println!(rt; "a broker over a claim: {}", refusal.number()),
     }
 }
 
-// A draft's fifth demand, and a caller's place for units.
+// A draft's fifth demand.
 fn try_draft(rt: &HostRuntime) -> io::Result<()> {
     let mut draft = Draft::new();
     let mut fifth = 0;
     for _ in 0..5 {
-        fifth = match draft.push(some(1, 1)) {
-            Ok(()) => 0,
-            Err(refusal) => refusal.number(),
-        };
+        fifth = draft
+            .push(some(1, 1))
+            .err()
+            .map_or(0, |refusal| refusal.number());
     }
     let count = draft.len();
     println!(rt; "a fifth demand: {fifth}, the draft has {count}")
@@ -118,7 +109,7 @@ fn try_bank(rt: &HostRuntime) -> io::Result<()> {
     try_refusals(rt, "bank", &mut bank, some(1, 1))
 }
 
-pub fn try_calls(rt: &HostRuntime) -> io::Result<()> {
+pub(crate) fn try_calls(rt: &HostRuntime) -> io::Result<()> {
     let mut pool = Pool::new(rt.alloc(), 1, 1)?;
     try_refusals(rt, "pool", &mut pool, some(1, 1))?;
     let mut named = Named::new(rt.alloc(), 2, 4)?;

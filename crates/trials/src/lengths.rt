@@ -25,7 +25,7 @@ fn try_long(rt: &HostRuntime, first: &str, times: usize, then: &str) -> io::Resu
     }
 }
 
-pub fn try_lengths(rt: &HostRuntime) -> io::Result<()> {
+pub(crate) fn try_lengths(rt: &HostRuntime) -> io::Result<()> {
     try_long(rt, "", 0, "")?;
     try_long(rt, "q 1", 0, "")?;
     try_long(rt, "q ", MOST_BYTES - 2, "1")?;

@@ -3,8 +3,6 @@
 // goods that have no claims yet.
 #![tactic(auto)]
 
-ghost use Rattle.std.specs.Prelude.{◌≤◌, length};
-
 use broker::Broker;
 use claims::PromiseNumber;
 use goods::Pool;
@@ -40,7 +38,7 @@ fn rows_over<R: Resource>(
 }
 
 // The rows of a script over the meeting's goods.
-pub fn rows_of(rt: &HostRuntime, script: &[u8]) -> Result<String, AllocError> {
+pub(crate) fn rows_of(rt: &HostRuntime, script: &[u8]) -> Result<String, AllocError> {
     let mut broker = open_meeting(rt.alloc())?;
     rows_over(rt, &mut broker, script)
 }
@@ -48,53 +46,35 @@ pub fn rows_of(rt: &HostRuntime, script: &[u8]) -> Result<String, AllocError> {
 // The rows of a script over a large pool.
 fn rows_on_pool(rt: &HostRuntime, script: &[u8]) -> Result<String, AllocError> {
     let pool = Pool::new(rt.alloc(), 1, POOL_SIZE)?;
-    match Broker::new(rt.alloc(), pool, PromiseNumber(POOL_FIRST)) {
-        Ok(mut broker) => rows_over(rt, &mut broker, script),
-        Err((error, _)) => Err(error),
-    }
+    let mut broker = Broker::new(rt.alloc(), pool, PromiseNumber(POOL_FIRST))?;
+    rows_over(rt, &mut broker, script)
 }
 
-// Where the next title begins, from a place on, or else the end.
-fn next_title(input: &[u8], from: usize) -> usize
-    ensures { result ≤ length input.now }
-{
-    let mut line = true;
-    for (i, byte) in input.iter().enumerate() {
-        if (i >= from) & line & ((*byte == MEETING) | (*byte == POOL)) {
-            return i;
-        }
-        line = *byte == b'\n';
-    }
-    input.len()
-}
-
-// Tells the title and the rows of one part of the input: a title's line, and a script.
+// Tells the title and the rows of one part of the input: a title's line, and a script. What stands before the first
+// title is no part.
 fn try_part(rt: &HostRuntime, part: &[u8]) -> io::Result<()> {
-    for (i, byte) in part.iter().enumerate() {
-        if *byte == b'\n' {
-            let (title, script) = part.split_at(i + 1);
-            rt.stdout().write_all(title)?;
-            let rows = if part[0] == POOL {
-                rows_on_pool(rt, script)?
-            } else {
-                rows_of(rt, script)?
-            };
-            return rt.print(rows.as_str());
-        }
-    }
-    Ok(())
+    let Some(end) = part.iter().position(|byte| *byte == b'\n') else {
+        return Ok(());
+    };
+    let (title, script) = part.split_at(end + 1);
+    let rows = match title {
+        [MEETING, ..] => rows_of(rt, script)?,
+        [POOL, ..] => rows_on_pool(rt, script)?,
+        _ => return Ok(()),
+    };
+    rt.stdout().write_all(title)?;
+    rt.print(rows.as_str())
+}
+
+// Whether a title begins at the next byte, which is behind this one.
+fn begins_title(byte: u8, next: u8) -> bool {
+    (byte == b'\n') & ((next == MEETING) | (next == POOL))
 }
 
 // Tries each part of the input.
 fn try_parts(rt: &HostRuntime, input: &[u8]) -> io::Result<()> {
-    let mut at = next_title(input, 0);
-    for _ in 0..input.len() {
-        let end = next_title(input, at.saturating_add(1));
-        if end <= at {
-            break;
-        }
-        try_part(rt, &input[at..end])?;
-        at = end;
+    for part in input.chunk_by(|byte, next| !begins_title(*byte, *next)) {
+        try_part(rt, part)?;
     }
     Ok(())
 }

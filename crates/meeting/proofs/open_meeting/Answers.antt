@@ -4,12 +4,11 @@ use Rattle.machine.specs.Machine.{start}
 use Rattle.meeting.specs.Stock.{goods}
 use Rattle.meeting.proofs.open_meeting.Goals as goal
 
-pub returns-in-Ok : goal.returns-in-Ok
-returns-in-Ok c =
+pub returns : goal.returns
+returns c =
     let s = c.in_ok-stock.ensures in
-    let b = c.in-Ok.ensures s.sound in
+    let b = c.in_ok-new.ensures in
     record {
-      sound = b.sound;
       ruled = ap goods.rules b.goods ∙ s.ruled;
       state = b.state ∙ ap (λ (z : Book). start 1 z) s.unclaimed;
     }

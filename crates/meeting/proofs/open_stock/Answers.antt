@@ -20,11 +20,10 @@ returns c =
     let t = c.in_ok-tables.tables in
     let pooled = c.in_ok-buggies.ensures.opened in
     let tabled = c.in_ok-tables.ensures.opened in
-    let both = c.new-goods.ensures.fresh tt tt in
+    let both = c.new-goods.ensures.fresh in
     let none : merge (pool_book p) (named_book t) ≡ [] = ap (λ (a : Book). merge a (named_book t)) pooled.unclaimed ∙ tabled.unclaimed in
-    let all = c.new-3.ensures.fresh both.sound in
+    let all = c.new-3.ensures.fresh in
     record {
-      sound = all.sound;
-      ruled = all.unclaimed both.empty ∙ ap (limited (replicate last_party 8)) (both.unclaimed none ∙ ap (λ (r : Rules). joined 1 r (named t.shelf t.goods)) pooled.ruled ∙ ap (λ (r : Rules). joined 1 (pool 1 6) r) tabled.ruled);
+      ruled = all.unclaimed both.empty ∙ ap (limited (replicate last_party 8)) (both.unclaimed none ∙ ap (λ (r : Rules). joined 1 r (named t.shelf t.goods.count)) pooled.ruled ∙ ap (λ (r : Rules). joined 1 (pool 1 6) r) tabled.ruled);
       unclaimed = all.empty;
     }
