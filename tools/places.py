@@ -12,7 +12,7 @@ import re
 import sys
 
 os.chdir(os.path.join(os.path.dirname(os.path.abspath(__file__)), ".."))
-SOURCES = sorted(glob.glob("crates/*/src/*.rt"))
+SOURCES = sorted(glob.glob("crates/*/src/**/*.rt", recursive=True))
 LINES = [(f, n, line.rstrip("\n")) for f in SOURCES for n, line in enumerate(open(f, encoding="utf-8"), 1)]
 
 
