@@ -1,17 +1,18 @@
 -- What stands at a key's place in a book by rising key.
-use Rattle.std.proofs.Common.{◌≡◌, ℕ, zero, suc, ◌<◌, ◌≤◌, Bool, true, false, cond, eqb, ltb, [], ◌∷◌, length, get_or, set, is_some, Some, None, Ok, Option, MatchOption, sym, refl, ap, ◌∙◌, ⊎_elim, arith}
+use Rattle.std.proofs.Common.{◌≡◌, ℕ, zero, suc, ◌<◌, ◌≤◌, Bool, true, false, cond, eqb, ltb, [], ◌∷◌, ◌++◌, length, get_or, take, drop, set, is_some, Some, None, Ok, Option, MatchOption, sym, refl, ap, ◌∙◌, ⊎_elim, arith}
 use Rattle.std.specs.List.{insert as inserted, remove}
 use Rattle.std.specs.Bool.{then_some}
 use Rattle.std.specs.List.Sorted.{IsNonDecreasingBy, IsPartitionPoint}
-use Rattle.std.proofs.lemmas.Bool.{eqb-true, eqb-false, cond_both, cond-true, cond-false, ltb-true, ltb-false, eq-eqb, ne_eqb, lt-ltb, and_parts, and_from, cases_eq, cases_lt}
-use Rattle.std.proofs.lemmas.List.{get_or_default}
+use Rattle.std.proofs.lemmas.Bool.{eqb-true, eqb-false, cond_both, cond-true, cond-false, ltb-true, ltb-false, eq-eqb, ne_eqb, le-ltb, lt-ltb, and_parts, and_from, cases_eq, cases_lt}
+use Rattle.std.proofs.lemmas.List.{get_or_default, set-get_or, set_split}
 use Rattle.claims.specs.declared.Cause.TheVariants.{KeyTaken, TooManyClaims}
 use Rattle.claims.specs.declared.Claim.{Claim}
 use Rattle.claims.specs.Book.{Book, key_of, find, insert, without, sent, out, Above, Rising}
 use Rattle.claims.specs.Limits.{most_claims}
 use Rattle.claims.specs.Rules.{shut_out, caused}
-use Rattle.claims.specs.Places.{rank, above, rises, Stands}
-use Rattle.claims.proofs.Books.{above_from, find-above, find_head, find_rest}
+use Rattle.claims.specs.Places.{rank, above, rises, Under, Stands}
+use Rattle.claims.proofs.Books.{find_head, find_rest}
+use Rattle.claims.proofs.Ranges.{find_past, without_past, out_past}
 
 pub above_says : (k : ℕ) (b : Book) → above k b ≡ true → Above k b
 above_says k [] e = tt
@@ -50,36 +51,65 @@ rank_is k (c ∷ b) (suc i) l p =
     ap suc (rank_is k b i (omega arith) (λ j d m n. p.0 (suc j) d (omega arith) (omega arith), λ j d m n. p.1 (suc j) d (omega arith) (omega arith)))
     ∙ sym (cond-true (ltb (key_of c) k) (suc (rank k b)) 0 (p.0 0 c (omega arith) (omega arith)))
 
+-- a claim before the key's place stands under the key, and one from there on does not
+pub rank_past : (k : ℕ) (b : Book) (i : ℕ) (d : Claim) → Rising b → i < length b → key_of (get_or b i d) < k → i < rank k b
+rank_past k [] i d h l lt = absurd (omega arith)
+rank_past k (c ∷ b) zero d h l lt = rw (cond-true (ltb (key_of c) k) (suc (rank k b)) 0 (lt-ltb (key_of c) k lt)) (omega arith)
+rank_past k (c ∷ b) (suc i) d h l lt =
+    let ih = rank_past k b i d h.1 (omega arith) lt in
+    let up = above_at (key_of c) b i d h.0 (omega arith) in
+    rw (cond-true (ltb (key_of c) k) (suc (rank k b)) 0 (lt-ltb (key_of c) k (omega arith))) (omega arith)
+
+pub rank-before : (k : ℕ) (b : Book) (i : ℕ) (d : Claim) → i < length b → k ≤ key_of (get_or b i d) → rank k b ≤ i
+rank-before k [] i d l le = absurd (omega arith)
+rank-before k (c ∷ b) zero d l le = rw (cond-false (ltb (key_of c) k) (suc (rank k b)) 0 (le-ltb (key_of c) k le)) (omega arith)
+rank-before k (c ∷ b) (suc i) d l le =
+    let ih = rank-before k b i d (omega arith) le in
+    cond_both (ltb (key_of c) k) (suc (rank k b)) 0 (λ r. r ≤ suc i) (λ e. omega arith) (λ e. omega arith)
+
 pub rank-within : (k : ℕ) (b : Book) → rank k b ≤ length b
 rank-within k [] = omega arith
 rank-within k (c ∷ b) =
     let ih = rank-within k b in
     cond_both (ltb (key_of c) k) (suc (rank k b)) 0 (λ r. r ≤ length (c ∷ b)) (λ e. omega arith) (λ e. omega arith)
 
+-- a key stands at its place alone
+ranked_at : (k : ℕ) (b : Book) (i : ℕ) (d : Claim) → Rising b → i < length b → key_of (get_or b i d) ≡ k → i ≡ rank k b
+ranked_at k [] i d h l e = absurd (omega arith)
+ranked_at k (c ∷ b) zero d h l e =
+    cond_both (ltb (key_of c) k) (suc (rank k b)) 0 (λ r. 0 ≡ r) (λ t. absurd (let lt = ltb-true (key_of c) k t in omega (arith, e))) (λ t. refl)
+ranked_at k (c ∷ b) (suc i) d h l e =
+    cond_both (ltb (key_of c) k) (suc (rank k b)) 0 (λ r. suc i ≡ r) (λ t. ap suc (ranked_at k b i d h.1 (omega arith) e))
+    (λ t. absurd (let le = ltb-false (key_of c) k t in let up = above_at (key_of c) b i d h.0 (omega arith) in omega (arith, e)))
+
+-- and where it stands at no place, there is no claim under it
+lacks : (k : ℕ) (b : Book) → ((j : ℕ) (d : Claim) → j < length b → key_of (get_or b j d) ≡ k → ⊥) → find b k ≡ None
+lacks k [] n = refl
+lacks k (c ∷ b) n = cond-false (eqb (key_of c) k) (Some c) (find b k) (ne_eqb (key_of c) k (n 0 c (omega arith))) ∙ lacks k b (λ j d l. n (suc j) d (omega arith))
+
+-- the claims before a key's place are below the key
+before : (k : ℕ) (b : Book) → Under k (take (rank k b) b)
+before k [] = tt
+before k (c ∷ b) =
+    cond_both (ltb (key_of c) k) (suc (rank k b)) 0 (λ r. Under k (take r (c ∷ b))) (λ t. (ltb-true (key_of c) k t, before k b)) (λ t. tt)
+
+-- a book in three: what is before a key's place, the claim there, and the rest
+split : (k : ℕ) (b : Book) (d : Claim) → rank k b < length b → b ≡ take (rank k b) b ++ get_or b (rank k b) d ∷ drop (suc (rank k b)) b
+split k b d l = sym (set-get_or b (rank k b) d) ∙ set_split b (rank k b) (get_or b (rank k b) d) l
+
 -- the claim at the place of a key is the one under it, if it has it
 pub find-rank : (k : ℕ) (b : Book) (d : Claim) → rank k b < length b → key_of (get_or b (rank k b) d) ≡ k → find b k ≡ Some (get_or b (rank k b) d)
-find-rank k [] d l e = absurd (omega arith)
-find-rank k (c ∷ b) d l e =
-    go (ltb (key_of c) k) refl l e (λ m f. find-rank k b d m f)
-  where
-    go : (q : Bool) → ltb (key_of c) k ≡ q → cond q (suc (rank k b)) 0 < length (c ∷ b) → key_of (get_or (c ∷ b) (cond q (suc (rank k b)) 0) d) ≡ k →
-        (rank k b < length b → key_of (get_or b (rank k b) d) ≡ k → find b k ≡ Some (get_or b (rank k b) d)) → find (c ∷ b) k ≡ Some (get_or (c ∷ b) (cond q (suc (rank k b)) 0) d)
-    go true t m f ih = cond-false (eqb (key_of c) k) (Some c) (find b k) (ne_eqb (key_of c) k (λ z. let lt = ltb-true (key_of c) k t in omega arith)) ∙ ih (omega arith) f
-    go false t m f ih = cond-true (eqb (key_of c) k) (Some c) (find b k) (eq-eqb (key_of c) k f)
+find-rank k b d l e =
+    let x = get_or b (rank k b) d in
+    let rest = drop (suc (rank k b)) b in
+    ap (λ y. find y k) (split k b d l) ∙ find_past k (take (rank k b) b) (x ∷ rest) (before k b) ∙ cond-true (eqb (key_of x) k) (Some x) (find rest k) (eq-eqb (key_of x) k e)
 
 -- and else there is none under it
 pub find-not : (k : ℕ) (b : Book) (d : Claim) → Rising b → (rank k b < length b → key_of (get_or b (rank k b) d) ≡ k → ⊥) → find b k ≡ None
-find-not k [] d h n = refl
-find-not k (c ∷ b) d h n =
-    go (ltb (key_of c) k) refl n (λ m. find-not k b d h.1 m)
-  where
-    go : (q : Bool) → ltb (key_of c) k ≡ q → (cond q (suc (rank k b)) 0 < length (c ∷ b) → key_of (get_or (c ∷ b) (cond q (suc (rank k b)) 0) d) ≡ k → ⊥) →
-        ((rank k b < length b → key_of (get_or b (rank k b) d) ≡ k → ⊥) → find b k ≡ None) → find (c ∷ b) k ≡ None
-    go true t m ih = cond-false (eqb (key_of c) k) (Some c) (find b k) (ne_eqb (key_of c) k (λ z. let lt = ltb-true (key_of c) k t in omega arith)) ∙ ih (λ l f. m (omega arith) f)
-    go false t m ih =
-        let le = ltb-false (key_of c) k t in
-        let ne : key_of c ≡ k → ⊥ = m (omega arith) in
-        find-above k (c ∷ b) (omega arith, above_from k (key_of c) b le h.0)
+find-not k b d h n =
+    lacks k b (λ j x l e.
+    let r = ranked_at k b j x h l e in
+    n (omega arith) (ap (λ i. key_of (get_or b i d)) (sym r) ∙ ap key_of (get_or_default b j d x l) ∙ e))
 
 pub insert-rank : (x : Claim) (b : Book) → find b (key_of x) ≡ None → inserted b (rank (key_of x) b) x ≡ insert x b
 insert-rank x [] n = refl
@@ -96,24 +126,19 @@ insert-rank x (c ∷ b) n =
     go false false s t ih = absurd (ne (omega (arith, ltb-false (key_of c) (key_of x) s, ltb-false (key_of x) (key_of c) t)))
 
 pub remove_rank : (k : ℕ) (b : Book) (d : Claim) → rank k b < length b → key_of (get_or b (rank k b) d) ≡ k → remove b (rank k b) ≡ without k b
-remove_rank k [] d l e = absurd (omega arith)
-remove_rank k (c ∷ b) d l e =
-    go (ltb (key_of c) k) refl l e (λ m f. remove_rank k b d m f)
-  where
-    go : (q : Bool) → ltb (key_of c) k ≡ q → cond q (suc (rank k b)) 0 < length (c ∷ b) → key_of (get_or (c ∷ b) (cond q (suc (rank k b)) 0) d) ≡ k →
-        (rank k b < length b → key_of (get_or b (rank k b) d) ≡ k → remove b (rank k b) ≡ without k b) → remove (c ∷ b) (cond q (suc (rank k b)) 0) ≡ without k (c ∷ b)
-    go true t m f ih = ap (λ r. c ∷ r) (ih (omega arith) f) ∙ sym (cond-false (eqb (key_of c) k) b (c ∷ without k b) (ne_eqb (key_of c) k (λ z. let lt = ltb-true (key_of c) k t in omega arith)))
-    go false t m f ih = sym (cond-true (eqb (key_of c) k) b (c ∷ without k b) (eq-eqb (key_of c) k f))
+remove_rank k b d l e =
+    let x = get_or b (rank k b) d in
+    let rest = drop (suc (rank k b)) b in
+    let same = eq-eqb (key_of x) k e in
+    sym (ap (without k) (split k b d l) ∙ without_past k (take (rank k b) b) (x ∷ rest) (before k b) ∙ ap (λ r. take (rank k b) b ++ r) (cond-true (eqb (key_of x) k) rest (x ∷ without k rest) same))
 
 pub out-rank : (k u : ℕ) (b : Book) (d : Claim) → rank k b < length b → key_of (get_or b (rank k b) d) ≡ k → set b (rank k b) (sent u (get_or b (rank k b) d)) ≡ out k u b
-out-rank k u [] d l e = absurd (omega arith)
-out-rank k u (c ∷ b) d l e =
-    go (ltb (key_of c) k) refl l e (λ m f. out-rank k u b d m f)
-  where
-    go : (q : Bool) → ltb (key_of c) k ≡ q → cond q (suc (rank k b)) 0 < length (c ∷ b) → key_of (get_or (c ∷ b) (cond q (suc (rank k b)) 0) d) ≡ k →
-        (rank k b < length b → key_of (get_or b (rank k b) d) ≡ k → set b (rank k b) (sent u (get_or b (rank k b) d)) ≡ out k u b) → set (c ∷ b) (cond q (suc (rank k b)) 0) (sent u (get_or (c ∷ b) (cond q (suc (rank k b)) 0) d)) ≡ out k u (c ∷ b)
-    go true t m f ih = ap (λ r. c ∷ r) (ih (omega arith) f) ∙ sym (cond-false (eqb (key_of c) k) (sent u c ∷ b) (c ∷ out k u b) (ne_eqb (key_of c) k (λ z. let lt = ltb-true (key_of c) k t in omega arith)))
-    go false t m f ih = sym (cond-true (eqb (key_of c) k) (sent u c ∷ b) (c ∷ out k u b) (eq-eqb (key_of c) k f))
+out-rank k u b d l e =
+    let x = get_or b (rank k b) d in
+    let rest = drop (suc (rank k b)) b in
+    let same = eq-eqb (key_of x) k e in
+    set_split b (rank k b) (sent u x) l
+    ∙ sym (ap (out k u) (split k b d l) ∙ out_past k u (take (rank k b) b) (x ∷ rest) (before k b) ∙ ap (λ r. take (rank k b) b ++ r) (cond-true (eqb (key_of x) k) (sent u x ∷ rest) (x ∷ out k u rest) same))
 
 -- what a look at a key's place shows
 pub lacks_past : (k : ℕ) (b : Book) → Rising b → length b ≤ rank k b → find b k ≡ None

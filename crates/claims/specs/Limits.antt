@@ -1,4 +1,5 @@
--- The numbers that bound a book, each named once.
+-- The numbers that bound a book, each named once. The constants of src/ have the same values; these stand beside
+-- them, since the rules and theorems of every crate are stated with them.
 use Rattle.std.specs.Prelude.{ℕ}
 
 -- as many claims as a carried book may have

@@ -4,7 +4,8 @@ ghost use Rattle.claims.specs.Limits.{most_units};
 
 use crate::Demand;
 
-// Whatever can say how many units a demand counts.
+/// Whatever can say how many units a demand counts. A trait and no closure: the sum of a party's units fits only if
+/// each demand counts few, and with a closure every caller would have to show that.
 pub trait Counting {
     ghost counts: { Self → Demand → ℕ };
 

@@ -1,4 +1,4 @@
-// What is promised: demands, claims and the numbers that name them, and the claims of a book in order.
+//! What is promised: demands, claims and the numbers that name them, and the claims of a book in order.
 #![tactic(auto)]
 
 ghost use Rattle.std.specs.Prelude.{◌≡◌};
@@ -10,44 +10,43 @@ pub use counting::Counting;
 pub use sorted::Claims;
 
 mod counting;
-mod keeping;
 mod sorted;
 
-// As many claims as a carried book may have.
+/// As many claims as a carried book may have.
 pub const MOST_CLAIMS: usize = 256;
 
-// As many goods as may be named or listed.
+/// As many goods as may be named or listed.
 pub const MOST_GOODS: usize = 256;
 
-// Parties are numbered from 1 up to this.
+/// Parties are numbered from 1 up to this.
 pub const LAST_PARTY: u32 = 32;
 
-// Shelves are numbered from 1 up to this.
+/// Shelves are numbered from 1 up to this.
 pub const LAST_SHELF: u32 = 255;
 
-// As many units as one demand may count.
+/// As many units as one demand may count.
 pub const MOST_UNITS: u32 = 60000;
 
-// The largest unit that a claim may go out with.
+/// The largest unit that a claim may go out with.
 pub const LAST_UNIT: u32 = 65535;
 
-// Names a promise; no two promises of a broker have the same one.
-#[derive(Clone, Copy, Default, PartialEq, Eq, PartialOrd, Ord)]
+/// Names a promise; no two promises of a broker have the same one.
+#[derive(Clone, Copy, PartialEq, Eq)]
 pub struct PromiseNumber(pub u32);
 
-// Names one good of a resource, from 1; 0 stands for a good without a number.
+/// Names one good of a resource, from 1; 0 stands for a good without a number, as a row prints it.
 #[derive(Clone, Copy, Default, PartialEq, Eq)]
 pub struct ItemNumber(pub u32);
 
-// Names who holds a promise.
-#[derive(Clone, Copy, Default, PartialEq, Eq)]
+/// Names who holds a promise.
+#[derive(Clone, Copy, PartialEq, Eq)]
 pub struct Party(pub u32);
 
-// Names a claim in a book.
-#[derive(Clone, Copy, Default, PartialEq, Eq, PartialOrd, Ord)]
+/// Names a claim in a book.
+#[derive(Clone, Copy, PartialEq, Eq, PartialOrd, Ord)]
 pub struct ClaimKey(pub u64);
 
-// What is wanted of one shelf; what the two numbers mean is the shelf's affair.
+/// What is wanted of one shelf; what the two numbers mean is the shelf's affair.
 #[derive(Clone, Copy, Default)]
 pub struct Demand {
     pub shelf: u32,
@@ -55,14 +54,15 @@ pub struct Demand {
     pub second: u32,
 }
 
-// A claim waits for a unit, or is out with one.
+/// A claim waits for a unit, or is out with one. An enum of its own and no Option: the two states have names in
+/// every rule, and `None` would not say that a claim waits.
 #[derive(Clone, Copy)]
 pub enum ClaimState {
     Waiting,
     Out(ItemNumber),
 }
 
-// A party's right to one demand's goods, under its key.
+/// A party's right to one demand's goods, under its key.
 #[derive(Clone, Copy)]
 pub struct Claim {
     pub key: ClaimKey,
@@ -71,30 +71,30 @@ pub struct Claim {
     pub state: ClaimState,
 }
 
-// Why a resource turns a call away.
+/// Why a resource turns a call away.
 #[derive(Clone, Copy)]
 pub enum Cause {
-    // the party is none, or the demand is not read
+    /// the party is none, or the demand is not read
     Unreadable = 11,
-    // the key is in the book
+    /// the key is in the book
     KeyTaken = 12,
-    // the key is not in the book
+    /// the key is not in the book
     NoSuchKey = 13,
-    // the claim is out already
+    /// the claim is out already
     AlreadyOut = 14,
-    // a pool has too little left
+    /// a pool has too little left
     PoolShort = 21,
-    // a named good is promised, or there is none of that number
+    /// a named good is promised, or there is none of that number
     ItemTaken = 22,
-    // the claims cannot all be given goods that suit them
+    /// the claims cannot all be given goods that suit them
     NoMatching = 23,
-    // the party would pass its limit
+    /// the party would pass its limit
     OverLimit = 24,
-    // the book would have too many claims
+    /// the book would have too many claims
     TooManyClaims = 25,
 }
 
-// A refusal of a resource: its cause, and the key that the call was for.
+/// A refusal of a resource: its cause, and the key that the call was for.
 #[derive(Clone, Copy)]
 pub struct Fault {
     pub cause: Cause,
@@ -102,7 +102,7 @@ pub struct Fault {
 }
 
 impl Party {
-    // Whether there is such a party.
+    /// Whether there is such a party.
     pub fn is_known(self) -> bool
         ensures { result ≡ is_party self }
     {
@@ -111,47 +111,44 @@ impl Party {
 }
 
 impl ClaimState {
-    // Whether a claim in this state waits, or is out with the unit.
+    /// Whether a claim in this state waits, or is out with the unit.
     pub fn waits_or_has(self, unit: u32) -> bool
         ensures { result ≡ waits_or_has unit self }
     {
         match self {
             ClaimState::Waiting => true,
-            ClaimState::Out(item) => item.0 == unit,
+            ClaimState::Out(item) => item == ItemNumber(unit),
         }
     }
 }
 
+/// A key, a party and a demand are what a caller has; with a state they are a claim.
 impl Claim {
-    // A claim that comes in without a unit.
+    /// A claim that comes in without a unit.
     pub fn waiting(key: ClaimKey, party: Party, demand: Demand) -> Claim
         ensures { result ≡ waiting_claim key party demand }
     {
-        let state = ClaimState::Waiting;
         Claim {
             key,
             party,
             demand,
-            state,
+            state: ClaimState::Waiting,
         }
     }
 
-    // A claim that comes in with the unit that it has.
+    /// A claim that comes in with the unit that it has.
     pub fn seated(key: ClaimKey, party: Party, demand: Demand, unit: ItemNumber) -> Claim
         ensures { result ≡ seated_claim key party demand unit }
     {
-        let state = ClaimState::Out(unit);
         Claim {
-            key,
-            party,
-            demand,
-            state,
+            state: ClaimState::Out(unit),
+            ..Claim::waiting(key, party, demand)
         }
     }
 }
 
 impl Cause {
-    // The number by which a cause is told.
+    /// The number by which a cause is told.
     pub fn number(self) -> u8
         ensures { result ≡ cause_number self }
     {

@@ -1,4 +1,4 @@
-// The broker's machine: what a call on promises is refused for, and what an event makes of a promise.
+//! The broker's machine: what a call on promises is refused for, and what an event makes of a promise.
 #![tactic(auto)]
 
 ghost use Rattle.std.specs.Prelude.{◌≡◌};
@@ -8,45 +8,45 @@ ghost use Rattle.machine.specs.Reached.{StaysConsistent};
 
 use claims::Fault;
 
-// As many promises as may live at once.
+/// As many promises as may live at once.
 pub const MOST_PROMISES: usize = 64;
 
-// As many demands as a draft may have, and as many keys as a promise has for its claims.
+/// As many demands as a draft may have, and as many keys as a promise has for its claims.
 pub const MOST_DEMANDS: usize = 4;
 
-// As many minutes as a promise may be asked for.
+/// As many minutes as a promise may be asked for.
 pub const MOST_MINUTES: u32 = 20160;
 
-// The last number that a promise may have.
-pub const LAST_NUMBER: u32 = 4294967295;
+/// The last number that a promise may have.
+pub const LAST_NUMBER: u32 = u32::MAX;
 
-// Why a broker turns a call away, in the order in which the questions are put.
+/// Why a broker turns a call away, in the order in which the questions are put.
 #[derive(Clone, Copy)]
 pub enum Refusal {
-    // the party is not 1 to 32
+    /// the party is not 1 to 32
     NotAParty,
-    // the draft has not 1 to 4 demands
+    /// the draft has not 1 to 4 demands
     DraftSize,
-    // the minutes are not 1 to 20,160
+    /// the minutes are not 1 to 20,160
     MinutesOutside,
-    // no promise of that number lives
+    /// no promise of that number lives
     NotLive,
-    // the promise is another party's
+    /// the promise is another party's
     NotYours,
-    // the promise is taken already, or for a give-back not taken yet
+    /// the promise is taken already, or for a give-back not taken yet
     WrongState,
-    // the demand at this position, from 1, is the first that the resource does not read
+    /// the demand at this position, from 1, is the first that the resource does not read
     Unreadable(u8),
-    // as many promises live as may
+    /// as many promises live as may
     TooManyPromises,
-    // no promise number is left
+    /// no promise number is left
     NumbersSpent,
-    // the demands up to this position, from 1, are not carried, for the resource's fault there
+    /// the demands up to this position, from 1, are not carried, for the resource's fault there
     NotCarried(u8, Fault),
 }
 
 impl Refusal {
-    // The number by which a refusal is told. A match, since a variant with values is not cast to a number.
+    /// The number by which a refusal is told. A match, since a variant with values is not cast to a number.
     pub fn number(self) -> u8
         ensures { result ≡ refusal_number self }
     {
@@ -65,17 +65,18 @@ impl Refusal {
     }
 }
 
-// A resource's fault is carried whole; its key says which demand of its promise it is for.
+/// A resource's fault is carried whole; its key says which demand of its promise it is for.
 impl From<Fault> for Refusal {
     ghost from_gives = { λ fault refusal. refusal ≡ not_carried_for fault };
 
     fn from(fault: Fault) -> Refusal {
+        // four keys to a promise, so the remainder fits a u8; no `From` leads from usize to u64
         let position = (fault.key.0 % MOST_DEMANDS as u64) as u8 + 1;
         Refusal::NotCarried(position, fault)
     }
 }
 
-// What stands under a promise number: nothing, or a promise in its state.
+/// What stands under a promise number: nothing, or a promise in its state.
 #[derive(Clone, Copy)]
 pub enum Slot {
     Empty = 0,
@@ -83,7 +84,7 @@ pub enum Slot {
     Taken = 2,
 }
 
-// What can happen to a promise.
+/// What can happen to a promise.
 #[derive(Clone, Copy)]
 pub enum Event {
     Take,
@@ -93,14 +94,14 @@ pub enum Event {
 }
 
 impl Slot {
-    // The number by which the state is told to a question.
+    /// The number by which the state is told to a question.
     pub fn number(self) -> u8
         ensures { result ≡ slot_number self }
     {
         self as u8
     }
 
-    // What an event makes of what it finds; none where it does not fit.
+    /// What an event makes of what it finds; none where it does not fit.
     pub fn meets(self, event: Event) -> Option<Slot>
         ensures { result ≡ met self event }
     {
@@ -115,8 +116,9 @@ impl Slot {
     }
 }
 
-// States a theorem: whatever calls a broker has answered, the goods carry its book, which holds just the claims of
-// its promises; a broker made over a book with claims promises nothing and leaves that book alone.
+/// States a theorem: whatever calls a broker has answered, the goods carry its book, which holds just the claims of
+/// its promises; a broker made over a book with claims promises nothing and leaves that book alone.
+/// It answers 0, as it always did; what it states is its second clause.
 pub fn machine_stays_consistent() -> u8
     ensures value { result ≡ 0 }
     ensures stated { StaysConsistent }

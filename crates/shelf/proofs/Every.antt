@@ -4,6 +4,7 @@ use Rattle.std.specs.List.{slice_get}
 use Rattle.std.proofs.lemmas.Bool.{and_parts, and_from, cond_both}
 use Rattle.claims.specs.declared.Claim.{Claim}
 use Rattle.claims.specs.Book.{Book, key_of, find, insert, sent, out, every}
+use Rattle.claims.proofs.Books.{every-out as out_alike}
 
 pub and-true : (x y : Bool) → y ≡ true → (x && y) ≡ x
 and-true true y e = e
@@ -56,7 +57,4 @@ module _ (t : Claim → Bool) where
 
   -- a test that does not look at the state stays as it was
   pub every-out : (k u : ℕ) (b : Book) → ((c : Claim) → t (sent u c) ≡ t c) → every t (out k u b) ≡ every t b
-  every-out k u [] same = refl
-  every-out k u (c ∷ b) same =
-      cond_both (eqb (key_of c) k) (sent u c ∷ b) (c ∷ out k u b) (λ r. every t r ≡ every t (c ∷ b))
-      (λ g. ap (λ (q : Bool). q && every t b) (same c)) (λ g. ap (λ (q : Bool). t c && q) (every-out k u b same))
+  every-out = out_alike t
