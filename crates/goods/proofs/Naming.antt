@@ -1,4 +1,5 @@
--- A walk through the claims that looks for an item, and when one claim more names an item that is free.
+-- A walk through the claims that looks for an item, and when one claim more names an item that is free: facts that
+-- stand for whoever builds on named goods. No proof of this crate cites them.
 use Rattle.std.specs.Prelude.{◌≡◌, ℕ, ◌+◌, ◌<◌, ◌≤◌, Bool, true, false, not, ◌&&◌, ◌||◌, length, drop, ◌==◌, ◌≢◌, slice_index_or}
 use Rattle.std.proofs.Common.{ap, ◌∙◌}
 use Rattle.std.proofs.lemmas.List.{at_drop_more, at_drop_all}

@@ -1,4 +1,5 @@
--- When one claim more fits into a pool.
+-- When one claim more fits into what a pool has left: a fact that stands for whoever builds on pools. No proof of this
+-- crate cites it.
 use Rattle.std.specs.Prelude.{◌≡◌, ℕ, ◌-◌, Bool, true, ◌&&◌, leb, nat_le}
 use Rattle.std.proofs.Common.{sym, ap, ◌∙◌, arith}
 use Rattle.std.proofs.lemmas.Bool.{and_parts, leb-true, le-leb}

@@ -1,10 +1,9 @@
 -- What a pool's quantities are with a claim more or less, and that it keeps to the laws and to escrow.
-use Rattle.std.specs.Prelude.{◌≡◌, ℕ, ◌+◌, ◌-◌, ◌≤◌, Bool, true, false, cond, leb, [], ◌∷◌, Some, ◌==◌, nat_le, nat_lt, refl}
+use Rattle.std.specs.Prelude.{◌≡◌, ℕ, ◌+◌, ◌≤◌, Bool, true, false, cond, leb, [], ◌∷◌, Some, ◌==◌, nat_le, nat_lt, refl}
 use Rattle.std.proofs.Common.{sym, ap, ◌∙◌, arith}
 use Rattle.std.specs.List.{sum_by}
 use Rattle.std.proofs.lemmas.List.Sums.{sum_by-cons}
 use Rattle.std.proofs.lemmas.Bool.{leb-true, le-leb, cond_both}
-use Rattle.std.specs.Cmp.{both_ways}
 use Rattle.claims.specs.declared.Cause.TheVariants.{PoolShort}
 use Rattle.claims.specs.declared.Claim.{Claim}
 use Rattle.claims.specs.Book.{Book, key_of, find, insert, without, sent, out}
@@ -65,12 +64,3 @@ escrow s n b =
 pub quantities_sum : (b : Book) → quantities b ≡ sum_by (λ c. c.demand.first) b
 quantities_sum [] = refl
 quantities_sum (c ∷ b) = ap (λ (n : ℕ). c.demand.first + n) (quantities_sum b) ∙ sym (sum_by-cons (λ (x : Claim). x.demand.first) c b)
-
--- where a pool covers a book, one claim more has to fit into what is left
-pub covered-insert : (n used : ℕ) (x : Claim) (b : Book) → nat_le (quantities b) n ≡ true → used ≡ quantities b → nat_le x.demand.first (n - used) ≡ nat_le (quantities (insert x b)) n
-covered-insert n used x b e sum =
-    let top = leb-true (quantities b) n e in
-    let more = quantities-insert x b in
-    both_ways (leb x.demand.first (n - used)) (leb (quantities (insert x b)) n)
-    (λ t. le-leb (quantities (insert x b)) n (let h = leb-true x.demand.first (n - used) t in omega arith))
-    (λ t. le-leb x.demand.first (n - used) (let h = leb-true (quantities (insert x b)) n t in omega arith))

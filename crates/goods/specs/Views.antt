@@ -2,23 +2,27 @@
 use Rattle.claims.specs.Book.{Book}
 use Rattle.claims.specs.Held.{claims_book}
 use Rattle.claims.specs.Rules.{Rules}
-use Rattle.goods.specs.declared.goods.Goods.{Ghosts}
+use Rattle.goods.specs.declared.kind.Goods.{Ghosts}
 use Rattle.goods.specs.declared.items.Items.{Items}
 use Rattle.goods.specs.declared.stock.Stock.{Stock}
-use Rattle.goods.specs.declared.units.Units.{Units}
+use Rattle.goods.specs.declared.quantity.Quantity.{Quantity}
+use Rattle.goods.specs.Fixed.{rules_of}
 use Rattle.goods.specs.Items.{named-goods}
 use Rattle.goods.specs.NamedGoods.{named}
 use Rattle.goods.specs.Pooled.{pool}
 use Rattle.goods.specs.Pools.{pool-goods}
 
-abbrev pub units : Ghosts Units
-units = record { goods = λ u. pool-goods u.size }
+abbrev pub stock_rules : {G : Type 0} (g : Ghosts G) → Stock G g → Rules
+stock_rules g s = rules_of s.shelf (g.goods s.goods)
+
+abbrev pub quantity : Ghosts Quantity
+quantity = record { goods = λ u. pool-goods u.size }
 
 abbrev pub items : Ghosts Items
 items = record { goods = λ i. named-goods i.count i.sized }
 
 abbrev pub Pool : Type 0
-Pool = Stock Units units
+Pool = Stock Quantity quantity
 
 abbrev pub Named : Type 0
 Named = Stock Items items

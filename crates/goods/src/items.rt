@@ -1,23 +1,43 @@
 ghost use Rattle.std.specs.Prelude.{◌≡◌, ◌≤◌};
 ghost use Rattle.claims.specs.Held.{claims_book};
 ghost use Rattle.claims.specs.Limits.{most_goods};
-ghost use Rattle.goods.specs.Items.{named-goods};
 ghost use Rattle.goods.specs.NamedGoods.{names};
 
 use crate::MOST_GOODS;
-use crate::goods::Goods;
+use crate::kind::Goods;
+use crate::stock::Stock;
 use claims::{Cause, Claim, Claims, Demand, ItemNumber};
 use shelf::gives_one_number;
+use std::alloc::{AllocError, Global};
 
-// Goods with numbers from 1 up, of which a demand names one.
+/// Goods with numbers from 1 up, of which a demand names one.
 #[derive(Drop)]
 pub struct Items {
-    pub(crate) count: u32,
+    count: u32,
     ghost sized: { count ≤ most_goods },
 }
 
+/// Goods on a shelf that are asked for by number, such as tables.
+pub type Named = Stock<Items>;
+
 // A demand names one of them.
 const EACH: usize = 1;
+
+impl Named {
+    ghost use Rattle.std.specs.Prelude.{min, IfOk};
+    ghost use Rattle.goods.specs.NamedGoods.{named as named_by, ItemsRule};
+    ghost use Rattle.goods.specs.Views.{named_rules, named_book};
+    ghost use Rattle.shelf.specs.Shelves.{Opened};
+
+    /// Goods from 1 up to a number, with no claims; what is above the most goods is left out.
+    pub fn new(heap: Global, shelf: u32, goods: u32) -> Result<Named, AllocError>
+        ensures opened { IfOk result (λ n. Opened (named_by shelf (min goods most_goods)) (named_rules n) (named_book n)) }
+        ensures items { ItemsRule shelf (min goods most_goods) }
+    {
+        let count = goods.min(MOST_GOODS);
+        Stock::with_goods(heap, shelf, Items { count })
+    }
+}
 
 // Whether some claim names the item.
 fn is_promised(claims: &Claims, item: u32) -> bool
@@ -30,6 +50,8 @@ fn is_promised(claims: &Claims, item: u32) -> bool
 }
 
 impl Goods for Items {
+    ghost use Rattle.goods.specs.Items.{named-goods};
+
     ghost goods = { λ i. named-goods i.count i.sized };
 
     fn is_formed(&self, demand: Demand) -> bool {

@@ -1,18 +1,19 @@
 -- What the calls of a list do to the allotment.
-use Rattle.std.proofs.Common.{◌≡◌, ℕ, zero, suc, ◌+◌, ◌<◌, ◌≤◌, Bool, true, false, cond, eqb, List, [], ◌∷◌, drop, length, is_some, ltb, Some, None, sym, refl, ap, ◌∙◌, subst, ⊎_elim, arith}
+use Rattle.std.proofs.Common.{◌≡◌, ℕ, zero, suc, ◌+◌, ◌<◌, ◌≤◌, Bool, true, false, cond, eqb, List, [], ◌∷◌, drop, length, is_some, ltb, Some, None, Option, sym, refl, ap, ◌∙◌, subst, ⊎_elim, arith}
 use Rattle.std.specs.List.{insert as inserted, remove, slice_get}
-use Rattle.std.proofs.lemmas.Bool.{cases_eq, cond-false, cond-true, false≢true, le-ltb, lt-ltb, ltb-true}
+use Rattle.std.specs.Option.{IfNone, OnSome}
+use Rattle.std.proofs.lemmas.Bool.{cases_eq, cond-false, cond-true, false≢true, false_from_ne_true, le-ltb, lt-ltb, ltb-true}
 use Rattle.std.proofs.lemmas.List.Edits.{length-insert as length_inserted}
 use Rattle.claims.specs.declared.Claim.{Claim}
 use Rattle.claims.specs.declared.Demand.{Demand}
-use Rattle.claims.specs.Book.{Book, find, insert, key_of, out, sent, without}
+use Rattle.claims.specs.Book.{Book, Rising, find, insert, key_of, out, sent, without}
 use Rattle.claims.specs.declared.Cause.TheVariants.{KeyTaken, TooManyClaims}
 use Rattle.claims.specs.Rules.{added, shut_out}
 use Rattle.claims.specs.Limits.{most_claims, most_goods}
 use Rattle.claims.specs.Places.{rank, Stands}
-use Rattle.claims.proofs.Books.{length-insert, length-out}
+use Rattle.claims.proofs.Books.{length-insert, length-out, without_absent}
 use Rattle.claims.proofs.Ranges.{find-out-same}
-use Rattle.claims.proofs.Ranks.{insert-rank, rank-within, stands_out, stands_removed, stands_some}
+use Rattle.claims.proofs.Ranks.{found_stands, insert-rank, rank-within, stands_out, stands_removed, stands_some}
 use Rattle.shelf.proofs.Shelving.{Passed}
 use Rattle.matching.specs.Matching.{Admits, Matching, Serves, carried}
 use Rattle.matching.proofs.Admitting.{answer-carried}
@@ -82,10 +83,15 @@ module _ {G : Type 0} (F : G → Demand → Bool) (goods : List G) (few : length
         let e = m.whole in
         ap (λ (x : List ℕ). remove x i) (w.admits.kept n ∙ w.placed) ∙ removed_inserted al i 0 (omega arith)
 
-  -- a claim leaves with its good
+  -- the claim at a place leaves with its good
   pub leaves_matched : (k i : ℕ) → Stands k b i → Matching F goods (without k b) (remove al i)
   leaves_matched k i at =
       subst (λ (y : Book). Matching F goods y (remove al i)) (stands_removed k b i (stands_some k b i at).0 at) (matching_fewer F goods b al i at.within m)
+
+  -- a claim leaves with its good, if there is one under the key
+  pub lifted_matched : (k : ℕ) (o : Option Claim) (al' : List ℕ) → Rising b → o ≡ find b k → OnSome o (al' ≡ remove al (rank k b)) → IfNone o (al' ≡ al) → Matching F goods (without k b) al'
+  lifted_matched k (Some c) al' rising is gone kept = subst (λ (a : List ℕ). Matching F goods (without k b) a) (sym gone) (leaves_matched k (rank k b) (found_stands k b c rising (sym is)))
+  lifted_matched k None al' rising is gone kept = subst (λ (a : List ℕ). Matching F goods (without k b) a) (sym kept) (subst (λ (y : Book). Matching F goods y al) (sym (without_absent k b (sym is))) m)
 
   -- a claim goes out with a unit: it does exactly if all are then carried
   module _ (k i u : ℕ) (b₂ : Book) (r : Bool) (al' : List ℕ) (w : Going F goods b al k i u b₂ r al') where
@@ -115,20 +121,16 @@ out-out k u v (c ∷ b) =
     go true e ih = cond-true (eqb (key_of c) k) (sent v (sent u c) ∷ b) (sent u c ∷ out k v b) e
     go false e ih = cond-false (eqb (key_of c) k) (sent v c ∷ out k u b) (c ∷ out k v (out k u b)) e ∙ ap (λ (r : Book). c ∷ r) ih
 
-not-true : (q : Bool) → (q ≡ true → ⊥) → q ≡ false
-not-true true no_way = absurd (no_way refl)
-not-true false no_way = refl
-
 module _ {G : Type 0} (F : G → Demand → Bool) (goods : List G) (b : Book) (k : ℕ) (c : Claim) (there : find b k ≡ Some c) where
   -- a claim is out only with the number of a good that suits it
   serving : (u : ℕ) → carried F goods (out k u b) ≡ true → (g : ℕ) × (u ≡ suc g) × Serves F goods (sent u c) g
   serving u e = out-serves F goods (out k u b) k (sent u c) (record { 0 = u }) e (find-out-same k u c b there) refl
 
   pub not-nothing : carried F goods (out k 0 b) ≡ false
-  not-nothing = not-true (carried F goods (out k 0 b)) (λ e. let w = serving 0 e in omega (arith, w.1))
+  not-nothing = false_from_ne_true (carried F goods (out k 0 b)) (λ e. let w = serving 0 e in omega (arith, w.1))
 
   pub not_unsuited : (g : ℕ) (y : G) → slice_get goods g ≡ Some y → F y c.demand ≡ false → carried F goods (out k (suc g) b) ≡ false
-  not_unsuited g y here n = not-true (carried F goods (out k (suc g) b)) (λ e.
+  not_unsuited g y here n = false_from_ne_true (carried F goods (out k (suc g) b)) (λ e.
       let w = serving (suc g) e in
       let same : w.0 ≡ g = omega (arith, w.1) in
       let there = w.2.suited in

@@ -1,4 +1,4 @@
-// Goods on a list, of which a demand wants any one that suits it: rooms by features, tee places by a span of minutes.
+//! Goods on a list, of which a demand wants any one that suits it: rooms by features, tee places by a span of minutes.
 #![tactic(auto)]
 
 pub use list::Listed;
@@ -7,9 +7,7 @@ pub use matching::{
     TWIN_BEDS, TeePlace, VIEW,
 };
 
-mod allotting;
 mod list;
-mod listing;
 mod lots;
 #[cfg(test)]
 mod tests;

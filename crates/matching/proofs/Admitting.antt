@@ -2,7 +2,7 @@
 use Rattle.std.proofs.Common.{◌≡◌, ℕ, ◌<◌, ◌≤◌, Bool, true, false, ◌&&◌, eqb, ltb, leb, List, length, replicate, sym, refl, ap, ◌∙◌, ⊎_elim, arith}
 use Rattle.std.specs.List.{remove}
 use Rattle.std.proofs.lemmas.List.{get_or_past, get_or-replicate, length-replicate}
-use Rattle.std.proofs.lemmas.Bool.{and_from, and_right, cases_lt, eq-eqb, false≢true, le-leb, lt-ltb, true≢false}
+use Rattle.std.proofs.lemmas.Bool.{and_from, and_left, and_parts, and_right, cases_lt, eq-eqb, eqb-true, false≢true, le-leb, leb-true, lt-ltb, ltb-true, true≢false}
 use Rattle.claims.specs.declared.Claim.{Claim}
 use Rattle.claims.specs.declared.Demand.{Demand}
 use Rattle.claims.specs.Limits.{most_claims, most_goods}
@@ -16,6 +16,21 @@ new_blank n k = ⊎_elim
     (λ (l : k < n). get_or-replicate n k 0 0 l)
     (λ (l : n ≤ k). get_or_past {X = ℕ} (replicate n 0) k 0 (omega (arith, length-replicate {A = ℕ} n 0)))
     (cases_lt k n)
+
+-- the four bounds, where their test is passed, and no admission where it is not
+pub bounds_say : (goods claims al x : ℕ) → in_bounds goods claims al x ≡ true → (goods ≤ most_goods) × (claims ≤ most_claims) × (al ≡ claims) × (x < claims)
+bounds_say goods claims al x e =
+    let p = and_parts ((leb goods most_goods && leb claims most_claims) && eqb al claims) (ltb x claims) e in
+    let q = and_parts (leb goods most_goods && leb claims most_claims) (eqb al claims) p.0 in
+    let r = and_parts (leb goods most_goods) (leb claims most_claims) q.0 in
+    (leb-true goods most_goods r.0, leb-true claims most_claims r.1, eqb-true al claims q.1, ltb-true x claims p.1)
+
+pub out_of_bounds : {G : Type 0} (F : G → Demand → Bool) (goods : List G) (b : List Claim) (x : ℕ) (al : List ℕ) → in_bounds (length goods) (length b) (length al) x ≡ false → Admits F goods b x al false al
+out_of_bounds F goods b x al e = record {
+  answer_is = λ m. sym (and_left (in_bounds (length goods) (length b) (length al) x) (carried F goods b) e);
+  taken = λ m y. absurd (false≢true y);
+  kept = λ _. refl;
+}
 
 bounds_hold : (goods claims al x : ℕ) → goods ≤ most_goods → claims ≤ most_claims → al ≡ claims → x < claims → in_bounds goods claims al x ≡ true
 bounds_hold goods claims al x few crowd same one =

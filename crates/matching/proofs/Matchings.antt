@@ -12,7 +12,7 @@ use Rattle.matching.specs.Matching.{Matching, Serves, carried, passes, serves}
 use Rattle.matching.specs.Paths.{Allots, all_but, all_of, fits}
 use Rattle.matching.proofs.Covers.{covers_right}
 use Rattle.matching.proofs.Passing.{nth-some, serves_says, serves_shows}
-use Rattle.matching.proofs.Places.{getD_removed, nth_removed, removed_inserted, removed_set, skip, skip_apart, skip_less, skip_onto}
+use Rattle.matching.proofs.Places.{get_or_removed, nth_removed, removed_inserted, removed_set, skip, skip_apart, skip_less, skip_onto}
 
 module _ {G : Type 0} (F : G → Demand → Bool) (goods : List G) where
   fits_shows : (b : List Claim) (i g : ℕ) (c : Claim) → slice_get b i ≡ Some c → Serves F goods c g → fits F goods b g i ≡ true
@@ -44,7 +44,7 @@ module _ {G : Type 0} (F : G → Demand → Bool) (goods : List G) where
   others_allots b al x l m =
       let short = length-remove b x l in
       let at : (i : ℕ) (ne : i ≡ x → ⊥) → get_or (remove al x) (skip_onto x i ne).0 0 ≡ get_or al i 0 =
-      (λ i ne. getD_removed al x (skip_onto x i ne).0 0 ∙ ap (λ (k : ℕ). get_or al k 0) (skip_onto x i ne).1) in
+      (λ i ne. get_or_removed al x (skip_onto x i ne).0 0 ∙ ap (λ (k : ℕ). get_or al k 0) (skip_onto x i ne).1) in
       let within : (i : ℕ) (ne : i ≡ x → ⊥) → i < length b → (skip_onto x i ne).0 < length (remove b x) =
       (λ i ne li. let e = (skip_onto x i ne).1 in let u = (skip_less x (skip_onto x i ne).0 (length b) l).1 (omega arith) in omega arith) in
       record {
@@ -66,8 +66,8 @@ module _ {G : Type 0} (F : G → Demand → Bool) (goods : List G) where
       let less : (j : ℕ) → j < length (remove b i) → skip i j < length b = (λ j h. (skip_less i j (length b) l).0 (omega arith)) in
       record {
         whole = (let s = length-remove al i (omega arith) in omega arith);
-        served = λ j c is. subst (λ (g : ℕ). Serves F goods c g) (sym (getD_removed al i j 0)) (m.served (skip i j) c (sym (nth_removed b i j) ∙ is));
-        apart = λ j k hj hk e. skip_apart i j k (m.apart (skip i j) (skip i k) (less j hj) (less k hk) (sym (getD_removed al i j 0) ∙ e ∙ getD_removed al i k 0));
+        served = λ j c is. subst (λ (g : ℕ). Serves F goods c g) (sym (get_or_removed al i j 0)) (m.served (skip i j) c (sym (nth_removed b i j) ∙ is));
+        apart = λ j k hj hk e. skip_apart i j k (m.apart (skip i j) (skip i k) (less j hj) (less k hk) (sym (get_or_removed al i j 0) ∙ e ∙ get_or_removed al i k 0));
       }
 
   -- beside a claim that comes in, the others keep their goods

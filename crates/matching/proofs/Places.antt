@@ -40,13 +40,13 @@ nth_removed (x ∷ xs) zero j = refl
 nth_removed (x ∷ xs) (suc i) zero = refl
 nth_removed (x ∷ xs) (suc i) (suc j) = nth_removed xs i j
 
-pub getD_removed : {X : Type 0} (xs : List X) (i j : ℕ) (d : X) → get_or (remove xs i) j d ≡ get_or xs (skip i j) d
+pub get_or_removed : {X : Type 0} (xs : List X) (i j : ℕ) (d : X) → get_or (remove xs i) j d ≡ get_or xs (skip i j) d
 unfolding skip
-getD_removed [] zero j d = refl
-getD_removed [] (suc i) j d = refl
-getD_removed (x ∷ xs) zero j d = refl
-getD_removed (x ∷ xs) (suc i) zero d = refl
-getD_removed (x ∷ xs) (suc i) (suc j) d = getD_removed xs i j d
+get_or_removed [] zero j d = refl
+get_or_removed [] (suc i) j d = refl
+get_or_removed (x ∷ xs) zero j d = refl
+get_or_removed (x ∷ xs) (suc i) zero d = refl
+get_or_removed (x ∷ xs) (suc i) (suc j) d = get_or_removed xs i j d
 
 pub removed_inserted : {X : Type 0} (xs : List X) (i : ℕ) (y : X) → i ≤ length xs → remove (insert xs i y) i ≡ xs
 removed_inserted xs zero y l = refl

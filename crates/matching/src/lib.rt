@@ -1,4 +1,4 @@
-// Goods that are not alike: each claim wants one that suits it.
+//! Goods that are not alike: each claim wants one that suits it.
 #![tactic(auto)]
 
 pub use admission::admit;
@@ -10,7 +10,6 @@ pub use suits::Suits;
 pub use tee::{LAST_MINUTE, TeePlace};
 
 mod admission;
-mod flip;
 mod reach;
 mod room;
 mod sheet;

@@ -19,7 +19,8 @@ fn serves<G: Suits>(good: &G, place: usize, claim: Claim) -> bool
     claim.state.waits_or_has(place as u32 + 1) && good.suits(claim.demand)
 }
 
-// For each good the claim that has it, but for the claim at `new`, which has none yet.
+// For each good the claim that has it, but for the claim at `new`, which has none yet: an array and no map, since a rule
+// of the project has no call of the matching ask for memory.
 fn holders_of(allotment: &[usize], new: usize) -> [Option<usize>; MOST_GOODS]
     ensures { Holders allotment.now new result }
 {

@@ -1,10 +1,10 @@
+//! Rooms, and the features that a room may have, each with its number: a set of them is the sum of their numbers, since a
+//! demand gives it as a number.
 ghost use Rattle.matching.specs.Rooms.{room_suits, room_formed};
 
 use crate::suits::Suits;
 use claims::Demand;
 
-// The features that a room may have, each with its number; a set of them is the sum of their numbers, since a demand
-// gives it as a number.
 pub const BATH: u8 = 1;
 
 pub const SHOWER: u8 = 2;
@@ -21,17 +21,17 @@ pub const DOGS: u8 = 64;
 
 pub const SUITE: u8 = 128;
 
-// The set of all features.
+/// The set of all features.
 pub const ALL_FEATURES: u8 = BATH
-    + SHOWER
-    + TWIN_BEDS
-    + GROUND_FLOOR
-    + VIEW
-    + QUIET_WING
-    + DOGS
-    + SUITE;
+    | SHOWER
+    | TWIN_BEDS
+    | GROUND_FLOOR
+    | VIEW
+    | QUIET_WING
+    | DOGS
+    | SUITE;
 
-// A room, with the set of its features.
+/// A room, with the set of its features.
 #[derive(Clone, Copy)]
 pub struct Room {
     pub features: u8,

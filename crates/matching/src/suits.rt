@@ -3,12 +3,12 @@ ghost use Rattle.claims.specs.declared.Demand.{Demand};
 
 use claims::Demand;
 
-// A good that can be asked whether it suits a demand.
+/// A good that can be asked whether it suits a demand.
 pub trait Suits {
-    // Whether a good suits a demand.
+    /// Whether a good suits a demand.
     ghost suiting: { Self → Demand → Bool };
 
-    // Whether a demand is well formed for goods of this kind.
+    /// Whether a demand is well formed for goods of this kind.
     ghost formed: { Demand → Bool };
 
     fn suits(&self, demand: Demand) -> bool

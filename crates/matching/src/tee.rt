@@ -3,10 +3,10 @@ ghost use Rattle.matching.specs.TeePlaces.{tee_suits, tee_formed};
 use crate::suits::Suits;
 use claims::Demand;
 
-// The last minute of the week: no span ends later.
+/// The last minute of the week: no span ends later.
 pub const LAST_MINUTE: u32 = 10079;
 
-// A place at the first tee, at its minute.
+/// A place at the first tee, at its minute.
 #[derive(Clone, Copy)]
 pub struct TeePlace {
     pub minute: u32,

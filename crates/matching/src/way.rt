@@ -3,8 +3,10 @@ ghost use Rattle.arrayvec.specs.ArrayVec.{array_vec_len};
 
 use arrayvec::ArrayVec;
 use claims::MOST_CLAIMS;
+use std::mem::replace;
 
-// A claim that was reached, and the place among the steps of the one that it was reached from.
+// A claim that was reached, and the place among the steps of the one that it was reached from: places and no boxes, since
+// a rule of the project has no call of the matching ask for memory.
 #[derive(Clone, Copy, Default)]
 pub(crate) struct Step {
     pub(crate) claim: usize,
@@ -23,8 +25,33 @@ pub(crate) struct Way {
     ghost within: { place < array_vec_len steps },
 }
 
-// There is no way: there are too few goods for the claims reached.
+// There is no way: the claims reached are too many for the goods that suit any of them. They are handed on, though
+// `admit` answers no more than that there are too many, so that a later call can list them.
 #[derive(Drop)]
 pub(crate) struct TooFew {
     pub(crate) reached: Steps,
+}
+
+impl Way {
+    ghost use Rattle.std.specs.Prelude.{ℕ, ◌+◌, ◌<◌, Bool, length};
+    ghost use Rattle.matching.specs.Paths.{Allots, Path, Queued, all_but, all_of};
+
+    // Gives the good to the claim at the end, that claim's good to the one that it was reached from, and so on back to
+    // the claim at `new`.
+    pub(crate) fn flip(&self, allotment: &mut [usize], new: usize)
+        requires one { new < length allotment.old }
+        requires queued { Queued (length allotment.old) new self.now.steps.items (self.now.place + 1) }
+        ensures { (fit : ℕ → ℕ → Bool) → Path fit (length allotment.old) new allotment.old self.now.steps.items self.now.place self.now.good → Allots fit (all_but (length allotment.old) new) allotment.old → Allots fit (all_of (length allotment.old)) allotment.new }
+    {
+        let steps = self.steps.as_slice();
+        let mut at = self.place;
+        let mut given = self.good;
+        // the places are those that the steps name, so that no range has them
+        while at > 0 {
+            let step = steps[at];
+            given = replace(&mut allotment[step.claim], given);
+            at = step.from;
+        }
+        allotment[new] = given;
+    }
 }

@@ -3,24 +3,11 @@ use Rattle.std.proofs.Common.{ℕ, Bool, List, length, subst}
 use Rattle.matching.specs.declared.way.Step.{Step}
 use Rattle.matching.specs.Paths.{Allots, Path, all_but, all_of, fits}
 use Rattle.matching.proofs.Admitting.{found, new_blank, not_found}
-use Rattle.matching.proofs.Covers.{covers_right}
 use Rattle.matching.proofs.Reaching.{shortage_none}
 use Rattle.matching.proofs.admission.admit.Goals as goal
 
-pub returns-then-goods-gt-MOST_GOODS-clause-right : goal.returns-then-goods-gt-MOST_GOODS-clause-right
-returns-then-goods-gt-MOST_GOODS-clause-right g c = covers_right g.G.Suits.suiting c.args.goods.now c.args.claims.now
-
-pub returns-then-allotment-claims-clause-right : goal.returns-then-allotment-claims-clause-right
-returns-then-allotment-claims-clause-right g c = covers_right g.G.Suits.suiting c.args.goods.now c.args.claims.now
-
 pub reach-requires-clause-clean : goal.reach-requires-clause-clean
 reach-requires-clause-clean g c = new_blank 256
-
-pub returns-in-Ok-clause-right : goal.returns-in-Ok-clause-right
-returns-in-Ok-clause-right g c = covers_right g.G.Suits.suiting c.args.goods.now c.args.claims.now
-
-pub returns-in-Err-clause-right : goal.returns-in-Err-clause-right
-returns-in-Err-clause-right g c = covers_right g.G.Suits.suiting c.args.goods.now c.args.claims.now
 
 pub returns-in-Ok-clause-admits : goal.returns-in-Ok-clause-admits
 returns-in-Ok-clause-admits g c =

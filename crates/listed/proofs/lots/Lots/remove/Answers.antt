@@ -10,6 +10,10 @@ use Rattle.listed.proofs.lots.Lots.remove.Goals as goal
 pub returns-in_err-at-clause-claims : goal.returns-in_err-at-clause-claims
 returns-in_err-at-clause-claims c = sym (without_absent c.args.key.0 (claims_book c.args.self.now.claims) c.in_err-at.ensures)
 
+-- where a claim stands, one is found
+pub returns-clause-kept : goal.returns-clause-kept
+returns-clause-kept c = rw (c.remove-2.ensures.value, (stands_some c.args.key.0 (claims_book c.args.self.now.claims) c.in_ok-at.at c.in_ok-at.ensures).1) tt
+
 pub invariant_of-self : goal.invariant_of-self
 invariant_of-self c =
     let s = c.args.self.now in

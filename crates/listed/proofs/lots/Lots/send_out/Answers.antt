@@ -28,8 +28,8 @@ loop-good-preserved-then-not-suits g c =
     let F = g.G.Suits.suiting in
     let s = c.args.self.now in
     let t = c.loop-good.invariant in
-    tried_more F c.args.goods.now (key_of c.args.claim) (claims_book s.claims) (vec_items s.allotment) c.args.claim c.requires.there (claims_book c.loop-good.self.claims) (vec_items c.loop-good.self.allotment) c.loop-good.good-iterator.a.rest.now c.loop-good.good-iterator.b.start t c.in-Some.good.now c.next.new.self.a.rest.now c.in-Some.unit c.next.new.self.b.start c.in-Some.ensures.steps _ _ t.again t.same
-    (unsuited F c.args.goods.now (key_of c.args.claim) (claims_book s.claims) (vec_items s.allotment) c.args.claim c.requires.there (claims_book c.loop-good.self.claims) (vec_items c.loop-good.self.allotment) c.loop-good.good-iterator.a.rest.now c.loop-good.good-iterator.b.start t c.in-Some.good.now c.next.new.self.a.rest.now c.in-Some.unit c.next.new.self.b.start c.in-Some.ensures.steps (sym c.suits.ensures ∙ c.if-not-suits.true))
+    tried_more F c.args.goods.now (key_of c.args.claim) (claims_book s.claims) (vec_items s.allotment) c.args.claim c.requires.there _ _ _ _ t _ _ _ _ c.in-Some.ensures.steps _ _ t.again t.same
+    (unsuited F c.args.goods.now (key_of c.args.claim) (claims_book s.claims) (vec_items s.allotment) c.args.claim c.requires.there _ _ _ _ t _ _ _ _ c.in-Some.ensures.steps (sym c.suits.ensures ∙ c.if-not-suits.true))
 
 pub invariant_of-self : goal.invariant_of-self
 invariant_of-self g c =
@@ -62,7 +62,7 @@ returns-then-admit g c =
     record {
       booked = w.booked;
       carries = sym (goes F c.args.goods.now c.requires.few b (vec_items s.allotment) c.requires.matched _ _ _ _ _ _ w) ∙ c.if-admit.true;
-      least = tried_below F c.args.goods.now (key_of c.args.claim) b (vec_items s.allotment) c.args.claim c.requires.there (claims_book c.loop-good.self.claims) (vec_items c.loop-good.self.allotment) c.loop-good.good-iterator.a.rest.now c.loop-good.good-iterator.b.start c.loop-good.invariant c.in-Some.good.now c.next.new.self.a.rest.now c.in-Some.unit c.next.new.self.b.start c.in-Some.ensures.steps;
+      least = tried_below F c.args.goods.now (key_of c.args.claim) b (vec_items s.allotment) c.args.claim c.requires.there _ _ _ _ c.loop-good.invariant _ _ _ _ c.in-Some.ensures.steps;
       matched = goes-matched F c.args.goods.now c.requires.few b (vec_items s.allotment) c.requires.matched _ _ _ _ _ _ w c.if-admit.true;
     }
 
@@ -74,7 +74,7 @@ loop-good-preserved g c =
     let b = claims_book s.claims in
     let k = key_of c.args.claim in
     let t = c.loop-good.invariant in
-    tried_more F c.args.goods.now k b (vec_items s.allotment) c.args.claim c.requires.there (claims_book c.loop-good.self.claims) (vec_items c.loop-good.self.allotment) c.loop-good.good-iterator.a.rest.now c.loop-good.good-iterator.b.start t c.in-Some.good.now c.next.new.self.a.rest.now c.in-Some.unit c.next.new.self.b.start c.in-Some.ensures.steps _ _
+    tried_more F c.args.goods.now k b (vec_items s.allotment) c.args.claim c.requires.there _ _ _ _ t _ _ _ _ c.in-Some.ensures.steps _ _
     (λ v. ap (out k v) w.booked ∙ out-out k c.in-Some.unit v b)
     (w.admits.kept c.if-admit.false)
     (ap (carried F c.args.goods.now) (sym w.booked) ∙ sym (goes F c.args.goods.now c.requires.few b (vec_items s.allotment) c.requires.matched _ _ _ _ _ _ w) ∙ c.if-admit.false)

@@ -1,0 +1,18 @@
+-- A claim goes out with the unit of its demand, the only one with which the book stays carried.
+use Rattle.std.proofs.Common.{sym}
+use Rattle.claims.specs.Held.{claims_book}
+use Rattle.goods.specs.Fixed.{Gone, rules_of, goes-out_as}
+use Rattle.goods.proofs.stock.StockResource.draw.Given.{Over}
+use Rattle.goods.proofs.stock.StockResource.draw.Goals as goal
+use Rattle.goods.proofs.stock.StockResource.draw.Goals.{After-send_out}
+
+gone : (g : Over) (c : After-send_out g) → Gone (rules_of c.args.self.now.shelf (g.G.Goods.goods c.args.self.now.goods)) c.args.key (claims_book c.args.self.now.claims) (claims_book c.send_out.new.self) c.unit-unit.result
+gone g c =
+    let s = c.args.self.now in
+    goes-out_as s.shelf (g.G.Goods.goods s.goods) c.args.key (claims_book s.claims) _ c.in_ok-claim.claim c.unit-unit.result s.carries s.reads (sym c.in_ok-claim.ensures) c.unit-unit.ensures c.send_out.ensures
+
+pub invariant_of-self : goal.invariant_of-self
+invariant_of-self g c = let w = gone g c in record { carries = w.carried; reads = w.all_read }
+
+pub returns : goal.returns
+returns g c = (gone g (goal.at.returns g c).After-send_out).drawn

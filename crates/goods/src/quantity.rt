@@ -1,0 +1,79 @@
+ghost use Rattle.std.specs.Prelude.{◌≡◌, ◌≤◌, ◌<◌, ◌^◌};
+ghost use Rattle.claims.specs.Held.{claims_book};
+ghost use Rattle.claims.specs.Limits.{most_units};
+ghost use Rattle.goods.specs.Pooled.{quantities};
+
+use crate::kind::Goods;
+use crate::stock::Stock;
+use claims::{Cause, Claim, Claims, Demand, ItemNumber, MOST_UNITS};
+use shelf::gives_one_number;
+use std::alloc::{AllocError, Global};
+
+// The one unit number that like units have.
+const UNNUMBERED: u32 = 0;
+
+/// Like units, of which a demand gives the quantity.
+#[derive(Drop)]
+pub struct Quantity {
+    size: u32,
+    ghost sized: { size ≤ most_units },
+}
+
+/// A quantity of like units on a shelf, such as buggies.
+pub type Pool = Stock<Quantity>;
+
+impl Pool {
+    ghost use Rattle.std.specs.Prelude.{min, IfOk};
+    ghost use Rattle.goods.specs.Pooled.{pool as pooled, EscrowRule};
+    ghost use Rattle.goods.specs.Views.{pool_rules, pool_book};
+    ghost use Rattle.shelf.specs.Shelves.{Opened};
+
+    /// A pool with no claims; of its size, what is above the most units is left out.
+    pub fn new(heap: Global, shelf: u32, size: u32) -> Result<Pool, AllocError>
+        ensures opened { IfOk result (λ p. Opened (pooled shelf (min size most_units)) (pool_rules p) (pool_book p)) }
+        ensures escrow { EscrowRule shelf (min size most_units) }
+    {
+        let size = size.min(MOST_UNITS);
+        Stock::with_goods(heap, shelf, Quantity { size })
+    }
+}
+
+// The quantities of all claims, waiting and out. There are few claims, and each quantity is small, so that the sum has
+// room for one more.
+fn promised(claims: &Claims) -> u64
+    ensures value { result ≡ quantities (claims_book claims.now) }
+    ensures small { result < 2 ^ 40 }
+{
+    claims
+        .as_slice()
+        .iter()
+        .map(|claim| u64::from(claim.demand.first))
+        .sum()
+}
+
+impl Goods for Quantity {
+    ghost use Rattle.goods.specs.Pools.{pool-goods};
+
+    ghost goods = { λ u. pool-goods u.size };
+
+    fn is_formed(&self, demand: Demand) -> bool {
+        gives_one_number(demand, MOST_UNITS)
+    }
+
+    fn amount(&self, demand: Demand) -> usize {
+        // there is no From for u32 into usize
+        demand.first as usize
+    }
+
+    fn unit(&self, _demand: Demand) -> ItemNumber {
+        ItemNumber(UNNUMBERED)
+    }
+
+    fn suffice_with(&self, claims: &Claims, claim: Claim) -> bool {
+        promised(claims) + u64::from(claim.demand.first) <= u64::from(self.size)
+    }
+
+    fn shortage(&self) -> Cause {
+        Cause::PoolShort
+    }
+}
