@@ -15,6 +15,7 @@ use Rattle.claims.proofs.Books.{length-merge}
 use Rattle.resource.specs.Calls.{Placed, Lifted, Drawn}
 use Rattle.resource.specs.Standing.{Standing}
 use Rattle.compound.specs.Limits.{KeepsLimits}
+use Rattle.compound.specs.Sides.{Sides}
 use Rattle.compound.specs.Limited.{limited}
 use Rattle.compound.specs.Opened.{closed, opened, open_book}
 use Rattle.compound.proofs.Sums.{units-few, counts-few}
@@ -88,3 +89,9 @@ summed {r} {b} h p d e f s =
 
 pub lifted-below : (limits : List ℕ) {r r' : Rules} {b b' : Book} {k : ClaimKey} {y : Result (Unit {0}) Fault} → Lifted k r b y r' b' → Lifted k (limited limits r) b y (limited limits r') b'
 lifted-below limits = lifted-whole (limited limits) (λ z. z) refl refl
+
+-- the sides of a bank that has no claims
+pub sides_none : (s : ℕ) (a b : Book) → a ≡ [] → b ≡ [] → Sides s a b
+sides_none s [] [] e f = record { lows = refl; highs = refl; distinct = refl; room = omega arith }
+sides_none s (c ∷ a) b e f = absurd (let z : length (c ∷ a) ≡ 0 = ap length e in omega arith)
+sides_none s [] (c ∷ b) e f = absurd (let z : length (c ∷ b) ≡ 0 = ap length f in omega arith)

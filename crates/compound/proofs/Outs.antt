@@ -1,15 +1,7 @@
 -- What stays as it is where a claim of a book goes out.
 use Rattle.std.proofs.Common.{◌≡◌, ℕ, Bool, true, false, cond, not, ◌&&◌, eqb, [], ◌∷◌, is_some, Some, refl, ap, ◌∙◌}
 use Rattle.std.proofs.lemmas.Bool.{cond_both}
-use Rattle.claims.specs.declared.Claim.{Claim}
-use Rattle.claims.specs.Book.{Book, key_of, find, sent, out, every, apart}
-
-pub every-out : (t : Claim → Bool) → ((v : ℕ) (c : Claim) → t (sent v c) ≡ t c) → (k u : ℕ) (b : Book) → every t (out k u b) ≡ every t b
-every-out t h k u [] = refl
-every-out t h k u (c ∷ b) =
-    cond_both (eqb (key_of c) k) (sent u c ∷ b) (c ∷ out k u b) (λ r. every t r ≡ every t (c ∷ b))
-    (λ e. ap (λ v. v && every t b) (h u c))
-    (λ e. ap (λ v. t c && v) (every-out t h k u b))
+use Rattle.claims.specs.Book.{Book, key_of, find, sent, out, apart}
 
 held_out : (j k u : ℕ) (b : Book) → is_some (find (out k u b) j) ≡ is_some (find b j)
 held_out j k u [] = refl

@@ -94,11 +94,15 @@ pub record Enters (s : ℕ) (p q : Rules) (a b : Book) (x : Claim) : Type 0 wher
   pub new : find (merge a b) (key_of x) ≡ None
   pub room : length (merge a b) < most_claims
 
+-- the sides of a bank that is open, where what stands of their types is known
+pub open_joint : {F S : Type 0} {f : Ghosts F} {t : Ghosts S} → ((a : F) → Standing (f.rules a) (f.book a)) → ((b : S) → Standing (t.rules b) (t.book b)) → (v : Bank F S f t) → v.is_open ≡ true → Joint v.split (f.rules v.first) (t.rules v.second) (f.book v.first) (t.book v.second)
+open_joint l r v is = joint v (l v.first) (r v.second) is
+
 -- what the questions of a bank show, where all are passed
-pub enters : {F S : Type 0} {f : Ghosts F} {t : Ghosts S} (v : Bank F S f t) → Standing (f.rules v.first) (f.book v.first) → Standing (t.rules v.second) (t.book v.second) → (x : Claim) {read : Bool} {held : Option Claim} {n : ℕ} → read ≡ (bank_rules f t v).reads x.demand → held ≡ find (bank_book f t v) (key_of x) → Ok tt ≡ answered x.key (turned_away read held x) → n ≡ length (bank_book f t v) → n < most_claims → (v.is_open ≡ true) × Enters v.split (f.rules v.first) (t.rules v.second) (f.book v.first) (t.book v.second) x
-enters v l r x e h y m less =
+pub enters : {F S : Type 0} {f : Ghosts F} {t : Ghosts S} → ((a : F) → Standing (f.rules a) (f.book a)) → ((b : S) → Standing (t.rules b) (t.book b)) → (v : Bank F S f t) (x : Claim) {read : Bool} {held : Option Claim} {n : ℕ} → read ≡ (bank_rules f t v).reads x.demand → held ≡ find (bank_book f t v) (key_of x) → Ok tt ≡ answered x.key (turned_away read held x) → n ≡ length (bank_book f t v) → n < most_claims → (v.is_open ≡ true) × Enters v.split (f.rules v.first) (t.rules v.second) (f.book v.first) (t.book v.second) x
+enters l r v x e h y m less =
     let q = asked v.is_open _ _ x e h y in
-    (q.is_open, record { joint = joint v l r q.is_open; new = q.new; room = let m' = rw q.is_open at m in omega arith })
+    (q.is_open, record { joint = open_joint l r v q.is_open; new = q.new; room = let m' = rw q.is_open at m in omega arith })
 
 module _ {s : ℕ} {p q : Rules} {a b : Book} {x : Claim} (w : Enters s p q a b x) where
   lack : (find a (key_of x) ≡ None) × (find b (key_of x) ≡ None)
@@ -137,21 +141,21 @@ module _ {s : ℕ} {p q : Rules} {a b : Book} {x : Claim} (w : Enters s p q a b 
       go true v = simp (w.new, lack.1, t, fits, e, f, w.joint.left.carried, v)
       go false v = simp (w.new, lack.1, t, fits, e, f, w.joint.left.carried, v)
 
-  pub placed-low : {y : Result (Unit {0}) Fault} {p' : Rules} {a' : Book} → x.demand.shelf ≤ s → Placed x p a y p' a' → Placed x (joined s p q) (merge a b) y (joined s p' q) (merge a' b)
-  placed-low t = placed-whole (λ r. joined s r q) (λ z. merge z b) (refusal-low (le-leb x.demand.shelf s t)) (merge-insert-first x a b lack.0)
+  pub placed-low : {y : Result (Unit {0}) Fault} {p' : Rules} {a' : Book} → low s x ≡ true → Placed x p a y p' a' → Placed x (joined s p q) (merge a b) y (joined s p' q) (merge a' b)
+  placed-low t = placed-whole (λ r. joined s r q) (λ z. merge z b) (refusal-low t) (merge-insert-first x a b lack.0)
 
-  pub placed-high : {y : Result (Unit {0}) Fault} {q' : Rules} {b' : Book} → s < x.demand.shelf → Placed x q b y q' b' → Placed x (joined s p q) (merge a b) y (joined s p q') (merge a b')
-  placed-high t = placed-whole (λ r. joined s p r) (λ z. merge a z) (refusal-high (lt-leb x.demand.shelf s t)) (merge-insert-second x a b lack.0)
+  pub placed-high : {y : Result (Unit {0}) Fault} {q' : Rules} {b' : Book} → low s x ≡ false → Placed x q b y q' b' → Placed x (joined s p q) (merge a b) y (joined s p q') (merge a b')
+  placed-high t = placed-whole (λ r. joined s p r) (λ z. merge a z) (refusal-high t) (merge-insert-second x a b lack.0)
 
-  pub sides_low : {y : Result (Unit {0}) Fault} {p' : Rules} {a' : Book} → x.demand.shelf ≤ s → Placed x p a y p' a' → Sides s a' b
+  pub sides_low : {y : Result (Unit {0}) Fault} {p' : Rules} {a' : Book} → low s x ≡ true → Placed x p a y p' a' → Sides s a' b
   sides_low t d = rw d.after (elim (refusal p a x) as (λ o. Sides s (added x a o) b) [
-    | None ↦ record { lows = every-insert (low s) x a (le-leb x.demand.shelf s t) w.joint.sides.lows; highs = w.joint.sides.highs; distinct = apart-insert-first x a b lack.1 w.joint.sides.distinct; room = omega (arith, w.room, length-insert x a, length-merge a b) }
+    | None ↦ record { lows = every-insert (low s) x a t w.joint.sides.lows; highs = w.joint.sides.highs; distinct = apart-insert-first x a b lack.1 w.joint.sides.distinct; room = omega (arith, w.room, length-insert x a, length-merge a b) }
     | Some z ↦ w.joint.sides
   ])
 
-  pub sides_high : {y : Result (Unit {0}) Fault} {q' : Rules} {b' : Book} → s < x.demand.shelf → Placed x q b y q' b' → Sides s a b'
+  pub sides_high : {y : Result (Unit {0}) Fault} {q' : Rules} {b' : Book} → low s x ≡ false → Placed x q b y q' b' → Sides s a b'
   sides_high t d = rw d.after (elim (refusal q b x) as (λ o. Sides s a (added x b o)) [
-    | None ↦ record { lows = w.joint.sides.lows; highs = every-insert (high s) x b (ap not (lt-leb x.demand.shelf s t)) w.joint.sides.highs; distinct = apart-insert-second x a b lack.0 w.joint.sides.distinct; room = omega (arith, w.room, length-insert x b, length-merge a b) }
+    | None ↦ record { lows = w.joint.sides.lows; highs = every-insert (high s) x b (ap not t) w.joint.sides.highs; distinct = apart-insert-second x a b lack.0 w.joint.sides.distinct; room = omega (arith, w.room, length-insert x b, length-merge a b) }
     | Some z ↦ w.joint.sides
   ])
 

@@ -5,11 +5,11 @@ use Rattle.claims.specs.declared.Fault.{Fault}
 use Rattle.claims.specs.declared.ItemNumber.{ItemNumber}
 use Rattle.claims.specs.Book.{Book, find}
 use Rattle.claims.specs.Rules.{Rules}
-use Rattle.claims.proofs.Books.{length_without, length-out, every-without, apart-without-first, apart-without-second}
+use Rattle.claims.proofs.Books.{length_without, length-out, every-out, every-without, apart-without-first, apart-without-second}
 use Rattle.resource.specs.Calls.{Lifted, Drawn, kept_in, gone_out}
 use Rattle.resource.specs.Draws.{drawn}
 use Rattle.compound.specs.Sides.{low, high, Sides}
-use Rattle.compound.proofs.Outs.{every-out, apart-out-first, apart-out-second}
+use Rattle.compound.proofs.Outs.{apart-out-first, apart-out-second}
 
 module _ {s : ℕ} {a b : Book} (h : Sides s a b) where
   pub sides_lifted-first : {k : ClaimKey} {y : Result (Unit {0}) Fault} {p p' : Rules} {a' : Book} → Lifted k p a y p' a' → Sides s a' b
@@ -20,12 +20,12 @@ module _ {s : ℕ} {a b : Book} (h : Sides s a b) where
 
   pub sides_drawn-first : {k : ClaimKey} {y : Result ItemNumber Fault} {p p' : Rules} {a' : Book} → Drawn k p a y p' a' → Sides s a' b
   sides_drawn-first {k} {p} d = rw d.after (elim (kept_in (find a k.0)) as (λ o. Sides s (gone_out k (drawn p a k.0) a o) b) [
-    | None ↦ record { lows = every-out (low s) (λ v c. refl) k.0 (drawn p a k.0) a ∙ h.lows; highs = h.highs; distinct = apart-out-first k.0 (drawn p a k.0) a b ∙ h.distinct; room = omega (arith, h.room, length-out k.0 (drawn p a k.0) a) }
+    | None ↦ record { lows = every-out (low s) k.0 (drawn p a k.0) a (λ c. refl) ∙ h.lows; highs = h.highs; distinct = apart-out-first k.0 (drawn p a k.0) a b ∙ h.distinct; room = omega (arith, h.room, length-out k.0 (drawn p a k.0) a) }
     | Some z ↦ h
   ])
 
   pub sides_drawn-second : {k : ClaimKey} {y : Result ItemNumber Fault} {q q' : Rules} {b' : Book} → Drawn k q b y q' b' → Sides s a b'
   sides_drawn-second {k} {q} d = rw d.after (elim (kept_in (find b k.0)) as (λ o. Sides s a (gone_out k (drawn q b k.0) b o)) [
-    | None ↦ record { lows = h.lows; highs = every-out (high s) (λ v c. refl) k.0 (drawn q b k.0) b ∙ h.highs; distinct = apart-out-second k.0 (drawn q b k.0) a b ∙ h.distinct; room = omega (arith, h.room, length-out k.0 (drawn q b k.0) b) }
+    | None ↦ record { lows = h.lows; highs = every-out (high s) k.0 (drawn q b k.0) b (λ c. refl) ∙ h.highs; distinct = apart-out-second k.0 (drawn q b k.0) a b ∙ h.distinct; room = omega (arith, h.room, length-out k.0 (drawn q b k.0) b) }
     | Some z ↦ h
   ])

@@ -1,3 +1,4 @@
+//! What a bank and a quota ask before they hand a call on.
 ghost use Rattle.std.specs.Prelude.{◌≡◌, MatchResult, false, true};
 ghost use Rattle.claims.specs.declared.Cause.TheVariants.{NoSuchKey};
 ghost use Rattle.claims.specs.Rules.{answered};
@@ -6,7 +7,9 @@ ghost use Rattle.compound.specs.Asked.{turned_away};
 use claims::{Cause, Claim, ClaimKey, Fault};
 
 // Turns a claim away before its units are looked at: `read` says whether its demand is read, and `held` is
-// what stands under its key.
+// what stands under its key. These are values and not the resource, so that no call goes back into the one that
+// asks. Crate shelf does not share it: there the list of claims says in one answer that a key is taken or that
+// there is no room.
 pub(crate) fn check_claim(claim: Claim, read: bool, held: Option<Claim>) -> Result<(), Fault>
     ensures { result ≡ answered claim.key (turned_away read held claim) }
 {

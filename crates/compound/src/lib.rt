@@ -1,4 +1,4 @@
-// Resources made of others: a bank is two of them as one, and a quota is one with a limit for each party.
+//! Resources made of others: a bank is two of them as one, and a quota is one with a limit for each party.
 #![tactic(auto)]
 
 pub use bank::Bank;

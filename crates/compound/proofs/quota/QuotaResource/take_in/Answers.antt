@@ -5,7 +5,7 @@ use Rattle.compound.specs.Limited.{limited}
 use Rattle.compound.proofs.Openings.{asked}
 use Rattle.compound.proofs.Wholes.{placed-not}
 use Rattle.compound.proofs.Keeping.{keeps_insert, keeps_placed, refusal_over, placed_below}
-use Rattle.compound.proofs.quota.limiting.QuotaResource.take_in.Goals as goal
+use Rattle.compound.proofs.quota.QuotaResource.take_in.Goals as goal
 
 pub invariant_of-self : goal.invariant_of-self
 invariant_of-self g c =

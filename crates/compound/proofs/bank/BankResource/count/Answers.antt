@@ -1,7 +1,7 @@
 -- The claims of both sides are those of the whole.
 use Rattle.std.proofs.Common.{arith}
 use Rattle.claims.proofs.Books.{length-merge}
-use Rattle.compound.proofs.bank.joining.BankResource.count.Goals as goal
+use Rattle.compound.proofs.bank.BankResource.count.Goals as goal
 
 pub returns-then-self : goal.returns-then-self
 returns-then-self g c =

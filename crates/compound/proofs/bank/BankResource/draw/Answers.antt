@@ -1,8 +1,7 @@
 -- The side that holds the claim answers as the bank would.
-use Rattle.compound.specs.Banks.{joint}
 use Rattle.compound.proofs.Sides.{sides_drawn-first, sides_drawn-second}
-use Rattle.compound.proofs.Parts.{drawn-first, drawn-second}
-use Rattle.compound.proofs.bank.joining.BankResource.draw.Goals as goal
+use Rattle.compound.proofs.Parts.{drawn-first, drawn-second, open_joint}
+use Rattle.compound.proofs.bank.BankResource.draw.Goals as goal
 
 pub invariant_of-self : goal.invariant_of-self
 invariant_of-self g c = record { sides = λ o. sides_drawn-first (c.args.self.now.sides o) c.draw.ensures }
@@ -12,14 +11,10 @@ invariant_of-self-else-is_some g c = record { sides = λ o. sides_drawn-second (
 
 pub returns-then-is_some : goal.returns-then-is_some
 returns-then-is_some g c =
-    let s = c.args.self.now in
     let is = c.in_ok-check_open.ensures in
-    let j = joint s (g.met.F.Resource.standing s.first) (g.met.S.Resource.standing s.second) is in
-    rw is (drawn-first j (cc) c.draw.ensures)
+    rw is (drawn-first (open_joint g.met.F.Resource.standing g.met.S.Resource.standing c.args.self.now is) (cc) c.draw.ensures)
 
 pub returns-else-is_some : goal.returns-else-is_some
 returns-else-is_some g c =
-    let s = c.args.self.now in
     let is = c.in_ok-check_open.ensures in
-    let j = joint s (g.met.F.Resource.standing s.first) (g.met.S.Resource.standing s.second) is in
-    rw is (drawn-second j (cc) c.draw-else-is_some.ensures)
+    rw is (drawn-second (open_joint g.met.F.Resource.standing g.met.S.Resource.standing c.args.self.now is) (cc) c.draw-else-is_some.ensures)

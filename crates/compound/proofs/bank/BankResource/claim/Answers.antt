@@ -3,7 +3,7 @@ use Rattle.std.proofs.Common.{◌≡◌, ℕ, Some, None, Option, MatchOption, t
 use Rattle.claims.specs.declared.Claim.{Claim}
 use Rattle.claims.specs.Book.{Book, Rising, apart, find, merge}
 use Rattle.claims.proofs.Books.{find-merge-first, find-merge_none}
-use Rattle.compound.proofs.bank.joining.BankResource.claim.Goals as goal
+use Rattle.compound.proofs.bank.BankResource.claim.Goals as goal
 
 -- what the first side answers, or else the second
 on_either : {N : Type 0} (o : Option Claim) {r : Option Claim} (k : ℕ) (a b : Book) → Rising a → apart a b ≡ true → o ≡ find a k → MatchOption o N (λ x. r ≡ Some x) → (N → r ≡ find b k) → r ≡ find (merge a b) k
