@@ -41,7 +41,7 @@ module _ (r : Rules) (b : Book) (k : ℕ) (ds : List Demand) (j : ℕ) (items : 
   pub stays_in : kept_in (find b' (k + j)) ≡ None
   stays_in = kept-waiting (find b' (k + j)) waiting.0.0 waiting.0.1 waiting.0.2
 
-  drawing_more : Drawing r b k ds (j + 1) (items ++ (record { 0 = drawn r b' (k + j) } ∷ [])) (out (k + j) (drawn r b' (k + j)) b')
+  pub drawing_more : Drawing r b k ds (j + 1) (items ++ (record { 0 = drawn r b' (k + j) } ∷ [])) (out (k + j) (drawn r b' (k + j)) b')
   drawing_more =
       let u = drawn r b' (k + j) in
       let x : ItemNumber = record { 0 = u } in

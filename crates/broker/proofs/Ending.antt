@@ -8,7 +8,7 @@ use Rattle.machine.specs.Machine.{State, Promise, promise_of, first_missed, is_p
 use Rattle.machine.specs.Slots.{met}
 use Rattle.broker.specs.Holds.{fits, missed}
 
-fits-take : (o : Option Promise) → fits Take o ≡ is_promised o
+pub fits-take : (o : Option Promise) → fits Take o ≡ is_promised o
 fits-take None = refl
 fits-take (Some p) = go p.taken
   where

@@ -1,4 +1,4 @@
-mod Consistency
+pub mod Consistency
 mod Firsts
 mod Turns
 mod Places

@@ -11,7 +11,7 @@ use Rattle.resource.specs.declared.Resource.{Ghosts}
 use Rattle.machine.specs.Limits.{most_demands}
 use Rattle.machine.specs.Entries.{Waits}
 use Rattle.machine.specs.Machine.{Promise, bundle, add_all, short_at, is_party, unread_at, keys_of, draws, out_all}
-use Rattle.broker.specs.Calls.{units_of}
+use Rattle.broker.specs.Calls.{drawn_units}
 
 -- a resource comes to have this book, and keeps its rules
 pub record Rebooks {X : Type 0} (m : Ghosts X) (x x' : X) (b : Book) : Type 0 where
@@ -45,5 +45,5 @@ ZerosBehind n items = drop n items ≡ replicate (most_demands - n) (record { 0 
 -- the claims of a promise are drawn, one after the other
 pub record HandedOut {X : Type 0} (m : Ghosts X) (x : X) (p : Promise) (answer : Result (ArrayVec ItemNumber) Fault) (x' : X) : Type 0 where
   pub same : m.rules x' ≡ m.rules x
-  pub value : Waits (most_demands * p.number) p.demands (m.book x) → (units : ArrayVec ItemNumber) × (answer ≡ Ok units) × (units_of units ≡ draws (m.rules x) (m.book x) (keys_of p))
+  pub value : Waits (most_demands * p.number) p.demands (m.book x) → (units : ArrayVec ItemNumber) × (answer ≡ Ok units) × (drawn_units units ≡ draws (m.rules x) (m.book x) (keys_of p))
   pub after : Waits (most_demands * p.number) p.demands (m.book x) → m.book x' ≡ out_all (m.rules x) (m.book x) (keys_of p)

@@ -10,6 +10,7 @@ use Rattle.machine.specs.Machine.Answer.{granted, handed, done, told, refused}
 use Rattle.machine.specs.Slots.{slot_number}
 use Rattle.broker.specs.declared.call.Call.{Call}
 use Rattle.broker.specs.declared.call.Call.TheVariants.{Ask, Take, Release, GiveBack, Question}
+use Rattle.broker.specs.declared.call.Units.{Units}
 use Rattle.broker.specs.declared.call.Answer.{Answer}
 use Rattle.broker.specs.declared.call.Answer.TheVariants.{Granted, Handed, Done, Told}
 use Rattle.broker.specs.Drafts.{demands_of}
@@ -25,9 +26,12 @@ call_of (Question number) = question number.0
 abbrev pub first_items : ℕ → List ItemNumber → List ℕ
 first_items n items = map (λ i. i.0) (take n items)
 
--- the units of a taking
-abbrev pub units_of : ArrayVec ItemNumber → List ℕ
-units_of u = map (λ i. i.0) u.items
+abbrev pub units_of : Units → List ℕ
+units_of u = first_items u.count u.items
+
+-- the units that were drawn
+abbrev pub drawn_units : ArrayVec ItemNumber → List ℕ
+drawn_units u = map (λ i. i.0) u.items
 
 -- what each answer stands for, and each refusal
 abbrev pub told_by : Answer → MachineAnswer
@@ -46,7 +50,7 @@ granted_or (Ok n) = granted n.0
 granted_or (Err x) = refused x
 
 abbrev pub units_or : Result (ArrayVec ItemNumber) Refusal → MachineAnswer
-units_or (Ok units) = handed (units_of units)
+units_or (Ok units) = handed (drawn_units units)
 units_or (Err x) = refused x
 
 abbrev pub handed_or : List ItemNumber → Result ℕ Refusal → MachineAnswer

@@ -1,4 +1,4 @@
-// The questions that a draft has to pass before the goods are asked for.
+//! The questions that a draft has to pass before the goods are asked for.
 ghost use Rattle.std.specs.Prelude.{◌≡◌};
 ghost use Rattle.std.specs.Option.{option_map};
 ghost use Rattle.machine.specs.Machine.{after as number_after};
@@ -10,7 +10,8 @@ use claims::{Party, PromiseNumber};
 use machine::{MOST_MINUTES, Refusal};
 use resource::Resource;
 
-// The position, from 1, of the first demand that a resource does not read.
+// The position, from 1, of the first demand that a resource does not read. The cast loses nothing: a draft has four
+// demands at most.
 fn unread<R: Resource>(resource: &R, draft: &Draft) -> Option<u8>
     ensures { Unread (R.Resource.rules resource.now) (demands_of draft.now) result }
 {
@@ -21,7 +22,7 @@ fn unread<R: Resource>(resource: &R, draft: &Draft) -> Option<u8>
         .map(|place| place as u8 + 1)
 }
 
-// Puts the questions on the party, the draft and the minutes.
+// Puts the questions on the party, the draft and the minutes. They come one by one, as the questions do.
 pub(crate) fn check_draft<R: Resource>(
     resource: &R,
     party: Party,
@@ -40,10 +41,10 @@ pub(crate) fn check_draft<R: Resource>(
     if !(1..=MOST_MINUTES).contains(&minutes) {
         return Err(Refusal::MinutesOutside);
     }
-    match unread(resource, draft) {
-        Some(position) => Err(Refusal::Unreadable(position)),
-        None => Ok(()),
+    if let Some(position) = unread(resource, draft) {
+        return Err(Refusal::Unreadable(position));
     }
+    Ok(())
 }
 
 // The number after a promise's, unless that is the last.

@@ -1,4 +1,4 @@
-// The claims of one promise, all together.
+//! The claims of one promise, all together.
 ghost use Rattle.std.specs.Prelude.{◌≡◌, ◌+◌, ◌*◌, ◌≤◌, List, length};
 ghost use Rattle.claims.specs.declared.Demand.{Demand as Wanted};
 ghost use Rattle.machine.specs.Limits.{most_demands};
@@ -7,29 +7,30 @@ ghost use Rattle.broker.specs.Bundles.{Rebooks, Bundled, HandedOut};
 ghost use Rattle.broker.specs.Drafts.{demands_of};
 ghost use Rattle.broker.specs.Held.{promise_view};
 
-use crate::call::Units;
-use crate::draft::Draft;
+use crate::call::Drawn;
 use crate::held::Promise;
 use arrayvec::ArrayVec;
-use claims::{ClaimKey, Fault, Party, PromiseNumber};
+use claims::{ClaimKey, Fault};
 use machine::MOST_DEMANDS;
 use resource::Resource;
 
-// The key of a promise's claim for the demand at a place in its draft: 4 n + j for demand j of promise n.
-fn claim_key(number: PromiseNumber, place: usize) -> ClaimKey
+// The key of a promise's claim for the demand at a place in its draft: 4 n + j for demand j of promise n. The two casts
+// lose nothing: both are 4 at most, and a `usize` has no `From` into `u64`.
+fn claim_key(promise: &Promise, place: usize) -> ClaimKey
     requires { place ≤ most_demands }
-    ensures { result.0 ≡ most_demands * number.0 + place }
+    ensures { result.0 ≡ most_demands * promise.now.number.0 + place }
 {
-    ClaimKey(MOST_DEMANDS as u64 * u64::from(number.0) + place as u64)
+    ClaimKey(MOST_DEMANDS as u64 * u64::from(promise.number.0) + place as u64)
 }
 
 // Lifts the first claims of a promise, so many of them.
-fn lift_first<R: Resource>(resource: &mut R, number: PromiseNumber, count: usize)
+fn lift_first<R: Resource>(resource: &mut R, promise: &Promise, count: usize)
     requires { count ≤ most_demands }
-    ensures { (ds : List Wanted) → length ds ≡ count → Rebooks R.Resource resource.old resource.new (lift_all (keys_from (most_demands * number.0) ds) (R.Resource.book resource.old)) }
+    ensures { (ds : List Wanted) → length ds ≡ count → Rebooks R.Resource resource.old resource.new (lift_all (keys_from (most_demands * promise.now.number.0) ds) (R.Resource.book resource.old)) }
 {
     for place in 0..count {
-        let _ = resource.lift(claim_key(number, place));
+        // The result can be let go: a claim that is not there needs no lifting.
+        let _ = resource.lift(claim_key(promise, place));
     }
 }
 
@@ -37,22 +38,17 @@ fn lift_first<R: Resource>(resource: &mut R, number: PromiseNumber, count: usize
 pub(crate) fn lift_claims<R: Resource>(resource: &mut R, promise: &Promise)
     ensures { Rebooks R.Resource resource.old resource.new (lift_all (keys_of (promise_view promise.now)) (R.Resource.book resource.old)) }
 {
-    lift_first(resource, promise.number, promise.draft.len());
+    lift_first(resource, promise, promise.draft.len());
 }
 
 // Places the claims of a promise one after the other. At the first that is refused it lifts those before.
-pub(crate) fn place_claims<R: Resource>(
-    resource: &mut R,
-    number: PromiseNumber,
-    party: Party,
-    draft: &Draft,
-) -> Result<(), Fault>
-    ensures { Bundled R.Resource resource.old number.0 party.0 (demands_of draft.now) result resource.new }
+pub(crate) fn place_claims<R: Resource>(resource: &mut R, promise: &Promise) -> Result<(), Fault>
+    ensures { Bundled R.Resource resource.old promise.now.number.0 promise.now.party.0 (demands_of promise.now.draft) result resource.new }
 {
-    let demands = draft.as_slice();
+    let demands = promise.draft.as_slice();
     for (place, demand) in demands.iter().enumerate() {
-        if let Err(fault) = resource.place(claim_key(number, place), party, *demand) {
-            lift_first(resource, number, place);
+        if let Err(fault) = resource.place(claim_key(promise, place), promise.party, *demand) {
+            lift_first(resource, promise, place);
             return Err(fault);
         }
     }
@@ -60,12 +56,12 @@ pub(crate) fn place_claims<R: Resource>(
 }
 
 // Draws the claims of a promise, in the order of its demands.
-pub(crate) fn draw_claims<R: Resource>(resource: &mut R, promise: &Promise) -> Result<Units, Fault>
+pub(crate) fn draw_claims<R: Resource>(resource: &mut R, promise: &Promise) -> Result<Drawn, Fault>
     ensures { HandedOut R.Resource resource.old (promise_view promise.now) result resource.new }
 {
     let mut units = ArrayVec::new();
     for place in 0..promise.draft.len() {
-        units.push(resource.draw(claim_key(promise.number, place))?);
+        units.push(resource.draw(claim_key(promise, place))?);
     }
     Ok(units)
 }

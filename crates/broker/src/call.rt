@@ -1,10 +1,14 @@
+//! The calls on a broker as values, and what they are told.
+ghost use Rattle.std.specs.Prelude.{◌≡◌, ◌≤◌, length};
+ghost use Rattle.machine.specs.Limits.{most_demands};
+
 use crate::draft::Draft;
 use arrayvec::ArrayVec;
 use claims::{ItemNumber, Party, PromiseNumber};
 use machine::{MOST_DEMANDS, Slot};
 
-// One call on a broker, with its arguments. Three calls have the same three: a struct for these would be no plainer,
-// since every caller would make one only for the call to take it apart.
+/// One call on a broker, with its arguments. Three calls have the same three: a struct for these would be no plainer,
+/// since every caller would make one only for the call to take it apart.
 #[derive(Drop)]
 pub enum Call {
     Ask {
@@ -33,18 +37,28 @@ pub enum Call {
     },
 }
 
-// The units that a taking hands over, in the order of the demands.
-pub type Units = ArrayVec<ItemNumber, MOST_DEMANDS>;
+/// The units that a taking hands over, in the order of the demands: four numbers, 0 behind the last, and their count.
+/// A rule of the project wants a taking's units so, and an answer can be copied.
+#[derive(Clone, Copy)]
+pub struct Units {
+    pub items: [ItemNumber; MOST_DEMANDS],
+    pub count: usize,
+    ghost whole: { length items ≡ most_demands },
+    ghost few: { count ≤ most_demands },
+}
 
-// What a call that is not refused is told.
-#[derive(Clone, Drop)]
+// The units drawn so far.
+pub(crate) type Drawn = ArrayVec<ItemNumber, MOST_DEMANDS>;
+
+/// What a call that is not refused is told.
+#[derive(Clone, Copy)]
 pub enum Answer {
-    // an ask: the number of the promise
+    /// An ask: the number of the promise.
     Granted(PromiseNumber),
-    // a taking: the units
+    /// A taking: the units.
     Handed(Units),
-    // a release or a give-back
+    /// A release or a give-back.
     Done,
-    // a question: what stands under the number
+    /// A question: what stands under the number.
     Told(Slot),
 }

@@ -1,35 +1,16 @@
-// The live promises: which one a call is for, and which ones lapse.
-ghost use Rattle.std.specs.Prelude.{◌≡◌, ◌≤◌, Some, vec_len, vec_capacity};
-ghost use Rattle.machine.specs.Machine.{promise_of, slot_of, lapsed as has_lapsed, standing as still_standing, kept as book_kept};
+//! The live promises: which one a call is for, and which ones lapse. The functions take the list and no broker: what
+//! they answer hangs on no resource, and `lapse`, which lifts claims, is lent one beside the list.
+ghost use Rattle.std.specs.Prelude.{◌≡◌, ◌≤◌, vec_len, vec_capacity};
+ghost use Rattle.machine.specs.Machine.{promise_of, slot_of, standing as still_standing, kept as book_kept};
 ghost use Rattle.broker.specs.Bundles.{Rebooks};
 ghost use Rattle.broker.specs.Holds.{Found, HeldAt};
-ghost use Rattle.broker.specs.Held.{promise_view, live_view};
+ghost use Rattle.broker.specs.Held.{live_view};
 
 use crate::bundles::lift_claims;
 use crate::held::Promise;
 use claims::{Party, PromiseNumber};
 use machine::{Event, Refusal, Slot};
 use resource::Resource;
-
-impl Promise {
-    // Whether it is promised or taken.
-    fn slot(&self) -> Slot
-        ensures { result ≡ slot_of (Some (promise_view self.now)) }
-    {
-        match self.last {
-            Some(_) => Slot::Promised,
-            None => Slot::Taken,
-        }
-    }
-
-    // Whether it runs out by a minute.
-    fn lapses(&self, clock: u32) -> bool
-        ensures { result ≡ has_lapsed clock (promise_view self.now) }
-    {
-        self.slot().meets(Event::Lapse).is_some()
-            && self.last.is_some_and(|last| last <= u64::from(clock))
-    }
-}
 
 // Ends each promise that runs out by a minute.
 pub(crate) fn lapse<R: Resource>(live: &mut Vec<Promise>, resource: &mut R, clock: u32)

@@ -1,4 +1,4 @@
-// The broker: drafts are asked for, promises are held, taken, given up or left to lapse, over any resource.
+//! The broker: drafts are asked for, promises are held, taken, given up or left to lapse, over any resource.
 #![tactic(auto)]
 
 pub use call::{Answer, Call, Units};
@@ -9,10 +9,8 @@ pub use no_room::NoRoom;
 mod asking;
 mod bundles;
 mod call;
-mod calls;
 mod desk;
 mod draft;
-mod drafting;
 mod held;
 mod holding;
 mod no_room;

@@ -7,6 +7,6 @@ use Rattle.broker.proofs.bundles.lift_first.Given as goal
 abbrev pub invariant-loop-place : goal.invariant-loop-place
 invariant-loop-place g l =
     let m = g.R.Resource in
-    let first = most_demands * l.number.0 in
+    let first = most_demands * l.promise.number.0 in
     (m.rules l.resource ≡ m.rules l.initial.resource) ×
     ((ds : List Demand) → length ds ≡ l.count → lift_all (keys_from (first + l.place) (drop l.place ds)) (m.book l.resource) ≡ lift_all (keys_from first ds) (m.book l.initial.resource))

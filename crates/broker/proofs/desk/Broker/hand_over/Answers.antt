@@ -5,7 +5,7 @@ use Rattle.machine.specs.Machine.{State, Answer, keys_of, out_all, draws, step}
 use Rattle.machine.specs.Machine.Call.{take}
 use Rattle.machine.specs.Machine.Answer.{handed}
 use Rattle.broker.specs.declared.held.Promise.{Promise as Held}
-use Rattle.broker.specs.Calls.{units_of}
+use Rattle.broker.specs.Calls.{drawn_units}
 use Rattle.broker.specs.Held.{state, live_view, promise_view}
 use Rattle.broker.specs.Holds.{as_taken}
 use Rattle.broker.specs.View.{view}
@@ -26,7 +26,7 @@ abbrev once_taken : Held → Held
 once_taken p = record { number = p.number; party = p.party; last = None; draft = p.draft }
 
 taken : (g : _) (c : After-index_mut g) → let m = g.R.Resource in let b = c.args.self.now in let a = c.at_minute.new.self in Consistent (view m a) →
-    ◌≡◌ {A = State × Answer} (state a.clock a.next (set (vec_items a.live) c.in_ok-i.i (once_taken c.index_mut.result.now)) (m.book c.draw_claims.new.resource), handed (units_of c.in_ok-units.units)) (step (m.rules b.resource) (view m b) (take c.args.minute c.args.party.0 c.args.number.0))
+    ◌≡◌ {A = State × Answer} (state a.clock a.next (set (vec_items a.live) c.in_ok-i.i (once_taken c.index_mut.result.now)) (m.book c.draw_claims.new.resource), handed (drawn_units c.in_ok-units.units)) (step (m.rules b.resource) (view m b) (take c.args.minute c.args.party.0 c.args.number.0))
 taken g c k =
     let m = g.R.Resource in
     let b = c.args.self.now in
@@ -47,7 +47,7 @@ taken g c k =
     (held_passed party n (view m a) xs refl i h x c.index.ensures) (promise_view x) (held_there party n (view m a) xs refl i h x c.index.ensures)
     (live_view (set xs i (once_taken y))) (map-set promise_view xs i (once_taken y) ∙ ap (λ p. set (live_view xs) i (as_taken (promise_view p))) c.index_mut.ensures.value ∙ sym (h.0.marked y))
     (m.book c.draw_claims.new.resource) (d.after waits ∙ ap (λ q. out_all q (m.book a.resource) keys) same)
-    (units_of c.in_ok-units.units) (ap units_of (let p = v.1 in cc) ∙ v.2 ∙ ap (λ q. draws q (m.book a.resource) keys) same)
+    (drawn_units c.in_ok-units.units) (ap drawn_units (let p = v.1 in cc) ∙ v.2 ∙ ap (λ q. draws q (m.book a.resource) keys) same)
 
 pub invariant_of-self-2-clause-consistent : goal.invariant_of-self-2-clause-consistent
 invariant_of-self-2-clause-consistent g c =
