@@ -1,4 +1,4 @@
-// Answers a booking script on standard input by rows on standard output, over the goods of one meeting.
+//! Answers a booking script on standard input by rows on standard output, over the goods of one meeting.
 #![tactic(auto)]
 
 use meeting::open_meeting;
@@ -7,13 +7,15 @@ use std::io;
 use std::io::Read;
 
 // One byte more than a script may have: a script that fills it is too long.
-const LOOKED_AT: u64 = MOST_BYTES as u64 + 1;
+const LOOKED_AT: usize = MOST_BYTES + 1;
 
 fn main(rt: HostRuntime) -> io::Result<()> {
-    let mut script = Vec::new(rt.alloc());
-    let _ = rt.stdin().take(LOOKED_AT).read_to_end(&mut script)?;
+    // the room is asked for once, with a byte to spare, so that reading asks for none
+    let mut script = Vec::with_capacity(rt.alloc(), LOOKED_AT + 1)?;
+    // a cast, since `u64` has no `From` of a `usize`
+    rt.stdin().take(LOOKED_AT as u64).read_to_end(&mut script)?;
     let mut broker = open_meeting(rt.alloc())?;
     let mut rows = String::new(rt.alloc());
-    answer_script(&mut broker, script.as_slice(), &mut rows)?;
-    rt.print(rows.as_str())
+    answer_script(&mut broker, &script, &mut rows)?;
+    rt.print(&rows)
 }

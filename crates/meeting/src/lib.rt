@@ -1,4 +1,4 @@
-// The goods of one open meeting, and the broker that promises them.
+//! The goods of one open meeting, and the broker that promises them.
 #![tactic(auto)]
 
 ghost use Rattle.std.specs.Prelude.{◌≡◌, IfOk};
@@ -10,26 +10,28 @@ use compound::{Bank, PARTIES, Quota};
 use goods::{Named, Pool};
 use std::alloc::{AllocError, Global};
 
-// Buggies and dining tables, under one quota.
+/// Buggies and dining tables, under one quota.
 pub type Stock = Quota<Bank<Pool, Named>>;
 
-// Where the buggies are, and how many.
+/// Where the buggies are.
 pub const BUGGY_SHELF: u32 = 1;
 
+/// How many buggies there are.
 pub const BUGGIES: u32 = 6;
 
-// Where the dining tables are, and how many.
+/// Where the dining tables are.
 pub const TABLE_SHELF: u32 = 2;
 
+/// How many dining tables there are.
 pub const TABLES: u32 = 4;
 
-// How many units each party may have.
+/// How many units each party may have.
 pub const UNITS_EACH: u32 = 8;
 
-// The number of the first promise.
+/// The number of the first promise.
 pub const FIRST_NUMBER: u32 = 1;
 
-// The meeting's goods, with no claims.
+/// The meeting's goods, with no claims.
 pub fn open_stock(heap: Global) -> Result<Stock, AllocError>
     ensures { IfOk result Stocked }
 {
@@ -39,7 +41,7 @@ pub fn open_stock(heap: Global) -> Result<Stock, AllocError>
     Ok(Quota::new(goods, [UNITS_EACH; PARTIES]))
 }
 
-// The broker over the meeting's goods, with no promises.
+/// The broker over the meeting's goods, with no promises.
 pub fn open_meeting(heap: Global) -> Result<Broker<Stock>, AllocError>
     ensures { IfOk result Opens }
 {

@@ -1,5 +1,5 @@
 -- Which bytes are a number as it is written.
-use Rattle.std.proofs.Common.{Bool, true, false, ◌||◌, ◌&&◌, ltb, eqb, [], ◌∷◌, ◌≡◌, ℕ, zero, suc, ◌^◌, ◌<◌, ◌≤◌, List, length, get_or, Ok, Err, IsUtf8, decimal, Result, refl, sym, ap, ◌∙◌, subst, arith, MatchOption}
+use Rattle.std.proofs.Common.{Bool, true, false, eqb, [], ◌∷◌, ◌≡◌, ℕ, zero, suc, ◌^◌, ◌<◌, ◌≤◌, List, length, get_or, Ok, Err, IsUtf8, decimal, Result, sym, ap, ◌∙◌, subst, ◌⊎◌, ⊎_elim, arith, MatchOption}
 use Rattle.std.specs.Bool.{Decides}
 use Rattle.std.specs.List.{starts_with}
 use Rattle.std.proofs.lemmas.Bool.Decides.{nat_tests}
@@ -20,7 +20,7 @@ Unwritten bs = (n : ℕ) → n < 2 ^ 32 → bs ≡ decimal n → ⊥
 pub decimal_at : (n k : ℕ) → n < 2 ^ 32 → k < length (decimal n) → IsInRange 48 57 (get_or (decimal n) k 0)
 decimal_at n k small l = digit_at (decimal n) k (digits_decimal own n (omega arith)) l
 
-plus_unwritten : (bs : List ℕ) → get_or bs 0 0 ≡ 43 → Unwritten bs
+pub plus_unwritten : (bs : List ℕ) → get_or bs 0 0 ≡ 43 → Unwritten bs
 plus_unwritten bs plus n small e =
     let d = decimal_at n 0 small (decimal_nonempty n (omega arith)) in
     let f : get_or (decimal n) 0 0 ≡ 43 = ap (λ l. get_or l 0 0) (sym e) ∙ plus in
@@ -30,7 +30,7 @@ zero_short : (n : ℕ) → n < 2 ^ 32 → get_or (decimal n) 0 0 ≡ 48 → leng
 zero_short zero small e = ap length (decimal_digit 0 (omega arith))
 zero_short (suc n) small e = absurd (omega (arith, first_decimal (suc n) (omega arith) (omega arith)))
 
-zero_unwritten : (bs : List ℕ) → get_or bs 0 0 ≡ 48 → 1 < length bs → Unwritten bs
+pub zero_unwritten : (bs : List ℕ) → get_or bs 0 0 ≡ 48 → 1 < length bs → Unwritten bs
 zero_unwritten bs z more n small e =
     omega (arith, ap length e, zero_short n small (ap (λ l. get_or l 0 0) (sym e) ∙ z))
 
@@ -39,20 +39,14 @@ pub first_told : (bs : List ℕ) (b : ℕ) (r : Bool) → 0 < b → r ≡ starts
 first_told [] b r some e = (λ t. absurd (let z : ◌≡◌ {A = Bool} true false = sym t ∙ e in cc), λ z. absurd (omega arith))
 first_told (x ∷ bs) b r some e = grind (arith, nat_tests)
 
--- a sign, or a zero before another digit
-pub marked_unwritten : (bs : List ℕ) (signed zeroed : Bool) → Decides signed (get_or bs 0 0 ≡ 43) → Decides zeroed (get_or bs 0 0 ≡ 48) → (signed || (zeroed && ltb 1 (length bs))) ≡ true → Unwritten bs
-marked_unwritten bs true zeroed plus leads t = plus_unwritten bs (plus.0 refl)
-marked_unwritten bs false true plus leads t = zero_unwritten bs (leads.0 refl) (grind (arith, nat_tests))
-marked_unwritten bs false false plus leads t = absurd (grind (arith, nat_tests))
-
-pub unmarked : (bs : List ℕ) (signed zeroed : Bool) → Decides signed (get_or bs 0 0 ≡ 43) → Decides zeroed (get_or bs 0 0 ≡ 48) → (signed || (zeroed && ltb 1 (length bs))) ≡ false → (get_or bs 0 0 ≡ 43 → ⊥) × (get_or bs 0 0 ≡ 48 → length bs ≡ 1)
-unmarked bs true zeroed plus leads t = absurd (grind (arith, nat_tests))
-unmarked bs false true plus leads t = ((λ e. let h = plus.1 e in absurd (grind arith)), (λ e. single bs e (grind (arith, nat_tests))))
+-- neither a sign, nor a zero before another digit
+pub unmarked : (bs : List ℕ) (signed zeroed : Bool) → Decides signed (get_or bs 0 0 ≡ 43) → Decides zeroed (get_or bs 0 0 ≡ 48) → signed ≡ false → (zeroed ≡ true × length bs ≤ 1) ⊎ (zeroed ≡ false) → (get_or bs 0 0 ≡ 43 → ⊥) × (get_or bs 0 0 ≡ 48 → length bs ≡ 1)
+unmarked bs signed zeroed plus leads plain either =
+    ((λ e. let h = plus.1 e in absurd (grind arith)), λ e. let h = leads.1 e in ⊎_elim (λ z. single bs e z.1) (λ z. absurd (grind arith)) either)
   where
     single : (bs : List ℕ) → get_or bs 0 0 ≡ 48 → length bs ≤ 1 → length bs ≡ 1
     single [] e l = absurd (omega arith)
     single (b ∷ bs) e l = omega arith
-unmarked bs false false plus leads t = ((λ e. let h = plus.1 e in absurd (grind arith)), (λ e. let h = leads.1 e in absurd (grind arith)))
 
 pub strange_unwritten : (bs : List ℕ) → (IsUtf8 bs → ⊥) → Unwritten bs
 strange_unwritten bs strange n small e = strange (subst IsUtf8 (sym e) (IsUtf8-from_ascii (decimal n) (IsAscii-decimal n (omega arith))))

@@ -8,7 +8,7 @@ use Rattle.std.proofs.lemmas.List.Splits.{slice_split_none, slice_split_at, join
 use Rattle.std.specs.Prelude.{◌↔◌, IsOk, OnOk, OnErr}
 use Rattle.arrayvec.specs.ArrayVec.{ArrayVec}
 use Rattle.script.specs.Limits.{most_numbers}
-use Rattle.script.specs.Spaced.{space, spaced, Small}
+use Rattle.script.specs.Spaced.{space, field, spaced, Small}
 use Rattle.script.proofs.Numbers.{Unwritten, decimal_at}
 
 -- the parts between the spaces
@@ -45,6 +45,11 @@ unspelled [] [] field left s none e = absurd (omega (arith, ap length e))
 unspelled [] (n ∷ ns) field left s none e = let f : field ≡ decimal n = cc in none n s.0 f
 unspelled (m ∷ seen) [] field left s none e = absurd (omega (arith, ap length e))
 unspelled (m ∷ seen) (n ∷ ns) field left s none e = let f : map decimal ns ≡ map decimal seen ++ (field ∷ left) = cc in unspelled seen ns field left s.1 none f
+
+-- one number more
+pub spaced_push : (ns : List ℕ) (n : ℕ) → spaced (ns ++ n ∷ []) ≡ spaced ns ++ field n
+spaced_push [] n = append-nil (field n)
+spaced_push (m ∷ ns) n = ap (λ l. field m ++ l) (spaced_push ns n) ∙ sym (append_assoc (field m) (spaced ns) (field n))
 
 module _ (bytes : List ℕ) where
   -- a spelling has nothing before its first space

@@ -61,7 +61,7 @@ module _ (numbers : List ℕ) (ds : List Demand) (i : ℕ) (more : 3 * i + 3 ≤
       (λ l. l)
       (cases_lt (length ds) most_demands)
 
-  room : result_ok r ≡ Some tt → length ds < most_demands
+  pub room : result_ok r ≡ Some tt → length ds < most_demands
   room some =
       ⊎_elim
       (λ l. l)

@@ -36,9 +36,6 @@ module _ {S : Type 0} (Deals : S → Call → List ℕ → S → Type 0) where
     pub added : now ≡ old ++ rows
     pub told : Rows Deals 1 s first rows t
 
-  pub none_yet : (s : S) (script old : List ℕ) (left : List (List ℕ)) (next : ℕ) → lines_of script ≡ left → next ≡ 1 → Sofar s script old left next s old
-  none_yet s script old left next cut is = record { first = []; cut = cut; many = is; rows = []; added = sym (append-nil old); told = (refl, refl) }
-
   module _ {s : S} {script old : List ℕ} {left : List (List ℕ)} {next : ℕ} {t : S} {now : List ℕ} (was : Sofar s script old left next t now) where
     -- there are numbers enough
     pub numbered : length script ≤ most_bytes → next ≤ most_bytes + 1

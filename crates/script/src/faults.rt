@@ -3,19 +3,19 @@ ghost use Rattle.script.specs.Faults.{unread_number, fault_number, at_line, unre
 
 use machine::Refusal;
 
-// What is wrong with a line that is not read: each fault, and the number by which it is told.
+/// What is wrong with a line that is not read: each fault, and the number by which it is told.
 #[derive(Clone, Copy)]
 pub enum Unread {
-    // its first byte is no call's letter
+    /// its first byte is no call's letter
     Letter = 33,
-    // a further field is not one space and a number
+    /// a further field is not one space and a number
     Number = 34,
-    // it has too few fields, or too many
+    /// it has too few fields, or too many
     Count = 35,
 }
 
 impl Unread {
-    // The number by which the fault is told.
+    /// The number by which the fault is told.
     pub fn number(self) -> u8
         ensures { result ≡ unread_number self }
     {
@@ -23,7 +23,7 @@ impl Unread {
     }
 }
 
-// What went wrong on a line.
+/// What went wrong on a line.
 #[derive(Clone, Copy)]
 pub struct OnLine<E> {
     pub line: u32,
@@ -37,19 +37,20 @@ pub(crate) fn on_line<T, E>(line: u32, res: Result<T, E>) -> Result<T, OnLine<E>
     res.map_err(|fault| OnLine { line, fault })
 }
 
-// Why a script, or a line of it, is turned away.
+/// Why a script, or a line of it, is turned away.
 #[derive(Clone, Copy)]
 pub enum ScriptFault {
-    // the script has too many bytes
+    /// the script has too many bytes
     TooLong,
-    // the line is not read
+    /// the line is not read
     Unread { line: u32, unread: Unread },
-    // the broker turns the line's call away
+    /// the broker turns the line's call away
     Refused { line: u32, refusal: Refusal },
 }
 
 impl ScriptFault {
-    // The number by which the fault is told.
+    /// The number by which the fault is told.
+    // A match, since a variant with values is not cast to a number.
     pub fn number(self) -> u8
         ensures { result ≡ fault_number self }
     {

@@ -19,14 +19,14 @@ const SPACE: u8 = b' ';
 fn number(digits: &[u8]) -> Option<u32>
     ensures { MatchOption result ((n : ℕ) → n < 2 ^ 32 → digits.now ≢ decimal n) (λ n. digits.now ≡ decimal n) }
 {
-    if digits.starts_with(b"+") | (digits.starts_with(b"0") & (digits.len() > 1)) {
+    if digits.starts_with(b"+") || (digits.starts_with(b"0") && digits.len() > 1) {
         return None;
     }
     str::from_utf8(digits).ok()?.parse::<u32>().ok()
 }
 
 // The numbers after the letter, if each is a space and a number, and if a call may have so many. Every field is read
-// before the last one's room is asked about, so that a field that is no number is told before a wrong count.
+// before it is asked whether there was room for all, so that a field that is no number is told before a wrong count.
 pub(crate) fn read_fields(bytes: &[u8]) -> Result<ArrayVec<u32, MOST_NUMBERS>, Unread>
     ensures { ReadsFields bytes.now result }
 {
@@ -37,6 +37,8 @@ pub(crate) fn read_fields(bytes: &[u8]) -> Result<ArrayVec<u32, MOST_NUMBERS>, U
         return Err(Unread::Number);
     }
     let mut numbers = ArrayVec::new();
+    // whether there was room for the last number that was read: once there is none for one, there is none for those
+    // after it, so that the last answer tells of all
     let mut kept = Ok(());
     for field in fields {
         let next = number(field).ok_or(Unread::Number)?;

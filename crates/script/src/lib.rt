@@ -1,4 +1,4 @@
-// A booking script: its lines are read, dealt with by a broker, and answered by rows.
+//! A booking script: its lines are read, dealt with by a broker, and answered by rows.
 #![tactic(auto)]
 
 pub use faults::{OnLine, ScriptFault, Unread};

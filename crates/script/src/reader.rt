@@ -17,11 +17,11 @@ fn read_draft(numbers: &[u32]) -> Option<Draft>
         return None;
     }
     let mut draft = Draft::new();
-    for [shelf, first, second] in demands {
+    for &[shelf, first, second] in demands {
         let demand = Demand {
-            shelf: *shelf,
-            first: *first,
-            second: *second,
+            shelf,
+            first,
+            second,
         };
         draft.push(demand).ok()?;
     }
@@ -34,35 +34,35 @@ fn read_call(verb: Verb, numbers: &[u32]) -> Option<Call>
     ensures { MatchOption result (Fitting verb (length numbers.now) → ⊥) (λ c. (verb_of c ≡ verb) × (numbers_of c ≡ numbers.now)) }
 {
     match (verb, numbers) {
-        (Verb::Ask, [minute, party, minutes, demands @ ..]) => Some(Call::Ask {
-            minute: *minute,
-            party: Party(*party),
-            minutes: *minutes,
+        (Verb::Ask, &[minute, party, minutes, ref demands @ ..]) => Some(Call::Ask {
+            minute,
+            party: Party(party),
+            minutes,
             draft: read_draft(demands)?,
         }),
-        (Verb::Take, [minute, party, number]) => Some(Call::Take {
-            minute: *minute,
-            party: Party(*party),
-            number: PromiseNumber(*number),
+        (Verb::Take, &[minute, party, number]) => Some(Call::Take {
+            minute,
+            party: Party(party),
+            number: PromiseNumber(number),
         }),
-        (Verb::Release, [minute, party, number]) => Some(Call::Release {
-            minute: *minute,
-            party: Party(*party),
-            number: PromiseNumber(*number),
+        (Verb::Release, &[minute, party, number]) => Some(Call::Release {
+            minute,
+            party: Party(party),
+            number: PromiseNumber(number),
         }),
-        (Verb::GiveBack, [minute, party, number]) => Some(Call::GiveBack {
-            minute: *minute,
-            party: Party(*party),
-            number: PromiseNumber(*number),
+        (Verb::GiveBack, &[minute, party, number]) => Some(Call::GiveBack {
+            minute,
+            party: Party(party),
+            number: PromiseNumber(number),
         }),
-        (Verb::Question, [number]) => Some(Call::Question {
-            number: PromiseNumber(*number),
+        (Verb::Question, &[number]) => Some(Call::Question {
+            number: PromiseNumber(number),
         }),
         (Verb::Ask | Verb::Take | Verb::Release | Verb::GiveBack | Verb::Question, _) => None,
     }
 }
 
-// The call that a line spells, or the first thing that is wrong with it.
+/// The call that a line spells, or the first thing that is wrong with it.
 pub fn read_line(line: &[u8]) -> Result<Call, Unread>
     ensures { ReadsAs line.now result }
 {
@@ -72,7 +72,7 @@ pub fn read_line(line: &[u8]) -> Result<Call, Unread>
     read_call(verb, numbers.as_slice()).ok_or(Unread::Count)
 }
 
-// The format is exact: a line reads in one way only, and the line of a call is read as that call.
+/// The format is exact: a line reads in one way only, and the line of a call is read as that call.
 pub fn format_is_exact()
     ensures once { OneReading }
     ensures read { SpelledIsRead }

@@ -13,13 +13,14 @@ use std::fmt;
 // The units that a taking hands over, each after a space. They are of another crate, as the answers and refusals below
 // are, and are printed here in a type of this one.
 #[derive(Clone, Copy)]
-struct Handed<'a>(&'a Units);
+struct Handed(Units);
 
-impl<'a> fmt::Display for Handed<'a> {
-    ghost output = { λ u. Some (spaced (units_of u.0.now)) };
+impl fmt::Display for Handed {
+    ghost output = { λ u. Some (spaced (units_of u.0)) };
 
     fn fmt<W: fmt::Write>(&self, f: &mut fmt::Formatter<W>) -> fmt::Result {
-        for unit in self.0.as_slice() {
+        let units = &self.0.items[..self.0.count];
+        for unit in units {
             write!(f, " {}", unit.0)?;
         }
         Ok(())
@@ -28,10 +29,10 @@ impl<'a> fmt::Display for Handed<'a> {
 
 // The word for an answer, and its numbers, each after a space.
 #[derive(Clone, Copy)]
-struct Told<'a>(&'a Answer);
+struct Told(Answer);
 
-impl<'a> fmt::Display for Told<'a> {
-    ghost output = { λ a. Some (worded (told_by a.0.now)) };
+impl fmt::Display for Told {
+    ghost output = { λ a. Some (worded (told_by a.0)) };
 
     fn fmt<W: fmt::Write>(&self, f: &mut fmt::Formatter<W>) -> fmt::Result {
         match self.0 {
@@ -87,7 +88,7 @@ impl fmt::Display for ScriptFault {
     }
 }
 
-// Adds the row of line n; where memory is short, the rows stand as they were.
+/// Adds the row of line n; where memory is short, the rows stand as they were.
 pub fn push_row(
     out: &mut String,
     n: u32,
@@ -97,8 +98,8 @@ pub fn push_row(
 {
     let alloc = *out.allocator();
     let row = match answer {
-        Ok(answer) => format!(in alloc; "{n}{}\n", Told(answer))?,
+        Ok(answer) => format!(in alloc; "{n}{}\n", Told(*answer))?,
         Err(fault) => format!(in alloc; "{n} no {fault}\n")?,
     };
-    out.push_str(row.as_str())
+    out.push_str(&row)
 }

@@ -12,7 +12,7 @@ pub(crate) enum Verb {
     Question,
 }
 
-// The verb of a letter, if it is one's.
+// Each letter that begins a call names one verb, and no other letter names any.
 impl TryFrom<char> for Verb {
     type Error = Unread;
 

@@ -10,10 +10,10 @@ use broker::{Answer, Broker};
 use resource::Resource;
 use std::alloc::AllocError;
 
-// The longest script that is looked at.
+/// The longest script that is looked at.
 pub const MOST_BYTES: usize = 65535;
 
-// Reads line n, and has the broker deal with its call.
+/// Reads line n, and has the broker deal with its call.
 pub fn answer_line<R: Resource>(
     broker: &mut Broker<R>,
     n: u32,
@@ -26,7 +26,7 @@ pub fn answer_line<R: Resource>(
     Ok(answer)
 }
 
-// Adds the row of line n. Where memory is short the line is dealt with, and the rows stand as they were.
+/// Adds the row of line n. Where memory is short the line is dealt with, and the rows stand as they were.
 pub fn row_of_line<R: Resource>(
     broker: &mut Broker<R>,
     n: u32,
@@ -39,7 +39,7 @@ pub fn row_of_line<R: Resource>(
     push_row(out, n, &answer)
 }
 
-// Adds the rows of a script. Where memory is short it stops, after the last line that was dealt with.
+/// Adds the rows of a script. Where memory is short it stops, after the last line that was dealt with.
 pub fn answer_script<R: Resource>(
     broker: &mut Broker<R>,
     script: &[u8],
@@ -56,12 +56,12 @@ pub fn answer_script<R: Resource>(
     Ok(())
 }
 
-// The lines that are answered are the script, cut at its line feeds and nowhere else.
+/// The lines that are answered are the script, cut at its line feeds and nowhere else.
 pub fn lines_are_the_script()
     ensures { LinesAreTheScript }
 {}
 
-// The machine has one list of rows for a script, and comes to one state.
+/// The machine has one list of rows for a script, and comes to one state.
 pub fn rows_are_pinned()
     ensures { RowsArePinned }
 {}

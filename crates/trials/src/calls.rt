@@ -1,4 +1,4 @@
-// Calls on resources and a broker that no script can make.
+//! Calls on resources and a broker that no script can make.
 use broker::{Broker, Draft};
 use claims::{ClaimKey, Demand, Fault, ItemNumber, Party, PromiseNumber};
 use compound::{Bank, Quota};
@@ -73,9 +73,11 @@ fn try_closed(rt: &HostRuntime) -> io::Result<()> {
 // A broker over a pool that has a claim already: its numbers are spent.
 fn try_spent(rt: &HostRuntime) -> io::Result<()> {
     let mut pool = Pool::new(rt.alloc(), 1, 6)?;
+    // a claim that the pool has room for, so that nothing is refused
     let _ = pool.place(ClaimKey(4), Party(1), some(1, 1));
     let mut broker = Broker::new(rt.alloc(), pool, PromiseNumber(1)).map_err(AllocError::from)?;
     let mut draft = Draft::new();
+    // a draft's first demand, which is taken in
     let _ = draft.push(some(1, 1));
     match broker.ask(0, Party(1), 10, draft) {
         Ok(_) => println!(rt; "a broker over a claim: granted"),

@@ -1,4 +1,4 @@
-// Scripts at the longest that is looked at.
+//! Scripts at the longest that is looked at.
 use crate::rows_of;
 use script::MOST_BYTES;
 use std::alloc::{AllocError, Global};
@@ -18,8 +18,8 @@ fn try_long(rt: &HostRuntime, first: &str, times: usize, then: &str) -> io::Resu
     let script = repeated(rt.alloc(), first, times, then)?;
     let rows = rows_of(rt, script.as_bytes())?;
     let bytes = script.len();
-    let count = rows.as_str().lines().count();
-    match rows.as_str().lines().last() {
+    let count = rows.lines().count();
+    match rows.lines().last() {
         Some(last) => println!(rt; "script of {bytes} bytes: rows {count}, the last {last}"),
         None => println!(rt; "script of {bytes} bytes: no rows"),
     }

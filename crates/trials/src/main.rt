@@ -1,6 +1,6 @@
-// Tries many cases, and tells what came. Standard input has scripts, each after a line that says what is tried: one
-// that begins with '=' is run over the meeting's goods, one that begins with '+' over a large pool, and each over
-// goods that have no claims yet.
+//! Tries many cases, and tells what came. Standard input has scripts, each after a line that says what is tried: one
+//! that begins with '=' is run over the meeting's goods, one that begins with '+' over a large pool, and each over
+//! goods that have no claims yet.
 #![tactic(auto)]
 
 use broker::Broker;
@@ -24,9 +24,10 @@ const POOL: u8 = b'+';
 // The large pool, and a first number after which 63 more are left.
 const POOL_SIZE: u32 = 60000;
 
-const POOL_FIRST: u32 = 4294967232;
+const POOL_FIRST: u32 = u32::MAX - 63;
 
-// The rows of a script, over a broker.
+// The rows of a script, over a broker. The runtime is handed down whole, here and below, since nothing but this
+// program calls these functions.
 fn rows_over<R: Resource>(
     rt: &HostRuntime,
     broker: &mut Broker<R>,
@@ -57,18 +58,20 @@ fn try_part(rt: &HostRuntime, part: &[u8]) -> io::Result<()> {
         return Ok(());
     };
     let (title, script) = part.split_at(end + 1);
-    let rows = match title {
-        [MEETING, ..] => rows_of(rt, script)?,
-        [POOL, ..] => rows_on_pool(rt, script)?,
-        _ => return Ok(()),
-    };
+    if !matches!(title, [MEETING | POOL, ..]) {
+        return Ok(());
+    }
     rt.stdout().write_all(title)?;
-    rt.print(rows.as_str())
+    let rows = match title {
+        [POOL, ..] => rows_on_pool(rt, script)?,
+        _ => rows_of(rt, script)?,
+    };
+    rt.print(&rows)
 }
 
 // Whether a title begins at the next byte, which is behind this one.
 fn begins_title(byte: u8, next: u8) -> bool {
-    (byte == b'\n') & ((next == MEETING) | (next == POOL))
+    byte == b'\n' && matches!(next, MEETING | POOL)
 }
 
 // Tries each part of the input.
@@ -81,8 +84,8 @@ fn try_parts(rt: &HostRuntime, input: &[u8]) -> io::Result<()> {
 
 fn main(rt: HostRuntime) -> io::Result<()> {
     let mut input = Vec::new(rt.alloc());
-    let _ = rt.stdin().read_to_end(&mut input)?;
-    try_parts(&rt, input.as_slice())?;
+    rt.stdin().read_to_end(&mut input)?;
+    try_parts(&rt, &input)?;
     lengths::try_lengths(&rt)?;
     calls::try_calls(&rt)
 }
