@@ -28,6 +28,7 @@ fn lift_first<R: Resource>(resource: &mut R, promise: &Promise, count: usize)
     requires { count ≤ most_demands }
     ensures { (ds : List Wanted) → length ds ≡ count → Rebooks R.Resource resource.old resource.new (lift_all (keys_from (most_demands * promise.now.number.0) ds) (R.Resource.book resource.old)) }
 {
+    // a range and no walk over the demands: of each its key alone is wanted, which the place gives
     for place in 0..count {
         // The result can be let go: a claim that is not there needs no lifting.
         let _ = resource.lift(claim_key(promise, place));
@@ -60,6 +61,7 @@ pub(crate) fn draw_claims<R: Resource>(resource: &mut R, promise: &Promise) -> R
     ensures { HandedOut R.Resource resource.old (promise_view promise.now) result resource.new }
 {
     let mut units = ArrayVec::new();
+    // a range, as in `lift_first`
     for place in 0..promise.draft.len() {
         units.push(resource.draw(claim_key(promise, place))?);
     }

@@ -28,6 +28,7 @@ pub struct Broker<R: Resource> {
     resource: R,
     ghost room: { most_promises ≤ vec_capacity live },
     ghost few: { vec_len live ≤ most_promises },
+    /// The book holds just the claims of the live promises.
     pub ghost consistent: { ∥ Consistent (state clock next live.items (R.Resource.book resource)) ∥₁ },
 }
 

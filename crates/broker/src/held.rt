@@ -21,6 +21,7 @@ impl Promise {
     pub(crate) fn slot(&self) -> Slot
         ensures { result ≡ slot_of (Some (promise_view self.now)) }
     {
+        // a match and no `map_or`: neither state is made of the minute
         match self.last {
             Some(_) => Slot::Promised,
             None => Slot::Taken,

@@ -42,6 +42,7 @@ pub(crate) fn slot_under(live: &[Promise], number: PromiseNumber) -> Slot
 }
 
 // Where a promise of a party stands that an event fits, or why a call for it is refused.
+// The event picks no step here: `Slot::meets` has it met by the state, as a rule of the project wants.
 pub(crate) fn hold(
     live: &[Promise],
     party: Party,

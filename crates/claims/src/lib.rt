@@ -149,6 +149,7 @@ impl Claim {
 
 impl Cause {
     /// The number by which a cause is told.
+    // The same line stands in three enums: the numbers are each enum's own, and no cast is of a type parameter.
     pub fn number(self) -> u8
         ensures { result ≡ cause_number self }
     {

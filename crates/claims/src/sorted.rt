@@ -33,6 +33,7 @@ impl Claims {
         Ok(Claims { items })
     }
 
+    /// How many claims there are.
     pub fn len(&self) -> usize
         ensures { result ≡ length (claims_book self.now) }
     {
@@ -50,6 +51,7 @@ impl Claims {
     pub fn position(&self, key: ClaimKey) -> Option<usize>
         ensures { MatchOption result (held (claims_book self.now) key.0 ≡ None) (λ i. Stands key.0 (claims_book self.now) i) }
     {
+        // by the rank, which `insert` needs too, so that the list is halved in one place
         let i = self.rank(key);
         let claim = self.items.get(i)?;
         (claim.key == key).then_some(i)

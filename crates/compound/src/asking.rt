@@ -26,6 +26,7 @@ pub(crate) fn check_claim(claim: Claim, read: bool, held: Option<Claim>) -> Resu
 }
 
 // Refuses a key where what was made over claims is closed: nothing stands under it.
+// A flag, since a closed one keeps its parts, so that no value is only an open one's.
 pub(crate) fn check_open(is_open: bool, key: ClaimKey) -> Result<(), Fault>
     ensures { MatchResult result (λ _. is_open ≡ true) (λ fault. (is_open ≡ false) × (fault ≡ record { cause = NoSuchKey; key = key })) }
 {

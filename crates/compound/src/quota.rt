@@ -21,6 +21,7 @@ pub const PARTIES: usize = LAST_PARTY as usize;
 pub struct Quota<R: Resource> {
     below: R,
     // the limit of party 1 first
+    // an array, since each party has one, and a rule of the project wants fixed memory
     limits: [u32; PARTIES],
     // false where there were claims before the limits were set: then nothing is read; a flag and not two
     // variants, since a closed quota keeps what is below and the limits, and its rules name them

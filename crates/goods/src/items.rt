@@ -30,6 +30,7 @@ impl Named {
     ghost use Rattle.shelf.specs.Shelves.{Opened};
 
     /// Goods from 1 up to a number, with no claims; what is above the most goods is left out.
+    // `Pool::new` is like it but for the most and the theorem: what both share is `Stock::with_goods`.
     pub fn new(heap: Global, shelf: u32, goods: u32) -> Result<Named, AllocError>
         ensures opened { IfOk result (λ n. Opened (named_by shelf (min goods most_goods)) (named_rules n) (named_book n)) }
         ensures items { ItemsRule shelf (min goods most_goods) }
@@ -54,6 +55,7 @@ impl Goods for Items {
 
     ghost goods = { λ i. named-goods i.count i.sized };
 
+    // as for a quantity but for the most: the common text, with that as its argument, is `gives_one_number`
     fn is_formed(&self, demand: Demand) -> bool {
         gives_one_number(demand, MOST_GOODS)
     }

@@ -29,6 +29,7 @@ impl Pool {
     ghost use Rattle.shelf.specs.Shelves.{Opened};
 
     /// A pool with no claims; of its size, what is above the most units is left out.
+    // `Named::new` is like it but for the most and the theorem: what both share is `Stock::with_goods`.
     pub fn new(heap: Global, shelf: u32, size: u32) -> Result<Pool, AllocError>
         ensures opened { IfOk result (λ p. Opened (pooled shelf (min size most_units)) (pool_rules p) (pool_book p)) }
         ensures escrow { EscrowRule shelf (min size most_units) }
@@ -56,6 +57,7 @@ impl Goods for Quantity {
 
     ghost goods = { λ u. pool-goods u.size };
 
+    // as for items but for the most: the common text, with that as its argument, is `gives_one_number`
     fn is_formed(&self, demand: Demand) -> bool {
         gives_one_number(demand, MOST_UNITS)
     }

@@ -95,6 +95,7 @@ pub enum Event {
 
 impl Slot {
     /// The number by which the state is told to a question.
+    // As `Cause::number`: the numbers are the enum's own, and no cast is of a type parameter.
     pub fn number(self) -> u8
         ensures { result ≡ slot_number self }
     {
@@ -102,6 +103,7 @@ impl Slot {
     }
 
     /// What an event makes of what it finds; none where it does not fit.
+    // The state is matched together with the event: a rule of the project.
     pub fn meets(self, event: Event) -> Option<Slot>
         ensures { result ≡ met self event }
     {

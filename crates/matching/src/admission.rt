@@ -21,6 +21,7 @@ pub fn admit<G: Suits>(goods: &[G], claims: &[Claim], allotment: &mut [usize], n
     }
     // marks are bytes, 256 of them lent to the call: a rule of the project
     let mut marks = [0; MOST_GOODS];
+    // a match and no `map`: what is done with a way answers nothing
     match reach(goods, claims, allotment, new, &mut marks) {
         Ok(way) => {
             way.flip(allotment, new);

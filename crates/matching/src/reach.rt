@@ -67,6 +67,7 @@ pub(crate) fn reach<G: Suits>(
             if sheet.0[good] != 0 || !serves(offered, good, asking) {
                 continue;
             }
+            // no `?`: a good that no claim has is the answer
             let Some(claim) = holders[good] else {
                 return Ok(Way {
                     steps,

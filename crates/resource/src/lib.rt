@@ -31,6 +31,7 @@ pub trait Resource {
     }
 
     /// Takes in a claim that is out with a unit.
+    // Its arguments stand one by one, as those of `place`.
     final fn seat(
         &mut self,
         key: ClaimKey,

@@ -16,6 +16,7 @@ pub enum Unread {
 
 impl Unread {
     /// The number by which the fault is told.
+    // As `Cause::number`: the numbers are the enum's own, and no cast is of a type parameter.
     pub fn number(self) -> u8
         ensures { result ≡ unread_number self }
     {

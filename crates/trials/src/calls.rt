@@ -16,6 +16,7 @@ fn some(shelf: u32, first: u32) -> Demand {
 }
 
 // The number of a fault, and 0 where there is none.
+// A number and no Option, since it is printed.
 fn told<T: Drop>(res: Result<T, Fault>) -> u8 {
     res.err().map_or(0, |fault| fault.cause.number())
 }
@@ -49,6 +50,7 @@ fn try_refusals<R: Resource>(
 fn try_crowd(rt: &HostRuntime) -> io::Result<()> {
     let mut pool = Pool::new(rt.alloc(), 1, 60001)?;
     let mut last = 0;
+    // the numbers are the keys
     for key in 0..257u64 {
         last = told(pool.place(ClaimKey(key), Party(1), some(1, 1)));
     }
@@ -89,6 +91,7 @@ fn try_spent(rt: &HostRuntime) -> io::Result<()> {
 fn try_draft(rt: &HostRuntime) -> io::Result<()> {
     let mut draft = Draft::new();
     let mut fifth = 0;
+    // a range that says how often
     for _ in 0..5 {
         fifth = draft
             .push(some(1, 1))

@@ -7,6 +7,7 @@ use std::io;
 // A first piece, and then so many times another.
 fn repeated(heap: Global, first: &str, times: usize, then: &str) -> Result<String, AllocError> {
     let mut text = String::from_str(heap, first)?;
+    // a range that says how often
     for _ in 0..times {
         text.push_str(then)?;
     }

@@ -54,6 +54,7 @@ fn rows_on_pool(rt: &HostRuntime, script: &[u8]) -> Result<String, AllocError> {
 // Tells the title and the rows of one part of the input: a title's line, and a script. What stands before the first
 // title is no part.
 fn try_part(rt: &HostRuntime, part: &[u8]) -> io::Result<()> {
+    // no `?`: a part without a line has no title, which is no fault
     let Some(end) = part.iter().position(|byte| *byte == b'\n') else {
         return Ok(());
     };
