@@ -3,6 +3,7 @@ ghost use Rattle.matching.specs.Matching.{Admits, CoversRight};
 
 use crate::reach::reach;
 use crate::suits::Suits;
+use crate::way::Steps;
 use claims::{Claim, MOST_CLAIMS, MOST_GOODS};
 
 /// Lets the claim at `new` have a good beside the others, which may get other goods for it; not if they cannot all be
@@ -21,10 +22,11 @@ pub fn admit<G: Suits>(goods: &[G], claims: &[Claim], allotment: &mut [usize], n
     }
     // marks are bytes, 256 of them lent to the call: a rule of the project
     let mut marks = [0; MOST_GOODS];
+    let mut steps = Steps::new();
     // a match and no `map`: what is done with a way answers nothing
-    match reach(goods, claims, allotment, new, &mut marks) {
+    match reach(goods, claims, allotment, new, &mut marks, &mut steps) {
         Ok(way) => {
-            way.flip(allotment, new);
+            way.flip(&steps, allotment, new);
             true
         }
         Err(_) => false,

@@ -1,4 +1,4 @@
-ghost use Rattle.std.specs.Prelude.{◌≡◌, ◌+◌, ◌<◌, ◌≤◌, ◌&&◌, length};
+ghost use Rattle.std.specs.Prelude.{◌≡◌, ◌+◌, ◌<◌, ◌≤◌, ◌&&◌, [], length};
 ghost use Rattle.claims.specs.Book.{waits_or_has};
 ghost use Rattle.claims.specs.Limits.{most_claims, most_goods};
 ghost use Rattle.matching.specs.Paths.{Blank, Holders, fits};
@@ -42,6 +42,7 @@ pub(crate) fn reach<G: Suits>(
     allotment: &[usize],
     new: usize,
     marks: &mut [u8],
+    steps: &mut Steps,
 ) -> Result<Way, TooFew>
     requires few { length goods.now ≤ most_goods }
     requires crowd { length claims.now ≤ most_claims }
@@ -49,12 +50,12 @@ pub(crate) fn reach<G: Suits>(
     requires one { new < length claims.now }
     requires wide { length goods.now ≤ length marks.old }
     requires clean { Blank marks.old }
-    ensures leads { Leads (fits G.Suits.suiting goods.now claims.now) (length claims.now) new allotment.now result }
+    requires none { steps.old.items ≡ [] }
+    ensures leads { Leads (fits G.Suits.suiting goods.now claims.now) (length claims.now) new allotment.now steps.new.items result }
     ensures wiped { Blank marks.new }
 {
     let holders = holders_of(allotment, new);
     let sheet = Sheet(marks);
-    let mut steps = Steps::new();
     steps.push(Step {
         claim: new,
         from: 0,
@@ -69,16 +70,12 @@ pub(crate) fn reach<G: Suits>(
             }
             // no `?`: a good that no claim has is the answer
             let Some(claim) = holders[good] else {
-                return Ok(Way {
-                    steps,
-                    place: from,
-                    good,
-                });
+                return Ok(Way { place: from, good });
             };
             sheet.0[good] = 1;
             steps.push(Step { claim, from });
         }
         from += 1;
     }
-    Err(TooFew { reached: steps })
+    Err(TooFew)
 }

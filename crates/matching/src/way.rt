@@ -1,6 +1,3 @@
-ghost use Rattle.std.specs.Prelude.{◌<◌};
-ghost use Rattle.arrayvec.specs.ArrayVec.{array_vec_len};
-
 use arrayvec::ArrayVec;
 use claims::MOST_CLAIMS;
 use std::mem::replace;
@@ -16,21 +13,17 @@ pub(crate) struct Step {
 // The claims reached from a new claim, which is the first, in the order in which they were reached.
 pub(crate) type Steps = ArrayVec<Step, MOST_CLAIMS>;
 
-// A way from a new claim to a good that no other claim has: the claim at a place of the steps is to have it.
-#[derive(Drop)]
+// The end of a way from a new claim to a good that no other claim has: the claim at a place of the steps is to have it.
+#[derive(Clone, Copy)]
 pub(crate) struct Way {
-    pub(crate) steps: Steps,
     pub(crate) place: usize,
     pub(crate) good: usize,
-    ghost within: { place < array_vec_len steps },
 }
 
-// There is no way: the claims reached are too many for the goods that suit any of them. They are handed on, though
+// There is no way: the claims reached are too many for the goods that suit any of them. The steps have them, though
 // `admit` answers no more than that there are too many, so that a later call can list them.
-#[derive(Drop)]
-pub(crate) struct TooFew {
-    pub(crate) reached: Steps,
-}
+#[derive(Clone, Copy)]
+pub(crate) struct TooFew;
 
 impl Way {
     ghost use Rattle.std.specs.Prelude.{ℕ, ◌+◌, ◌<◌, Bool, length};
@@ -38,12 +31,12 @@ impl Way {
 
     // Gives the good to the claim at the end, that claim's good to the one that it was reached from, and so on back to
     // the claim at `new`.
-    pub(crate) fn flip(&self, allotment: &mut [usize], new: usize)
+    pub(crate) fn flip(&self, steps: &[Step], allotment: &mut [usize], new: usize)
         requires one { new < length allotment.old }
-        requires queued { Queued (length allotment.old) new self.now.steps.items (self.now.place + 1) }
-        ensures { (fit : ℕ → ℕ → Bool) → Path fit (length allotment.old) new allotment.old self.now.steps.items self.now.place self.now.good → Allots fit (all_but (length allotment.old) new) allotment.old → Allots fit (all_of (length allotment.old)) allotment.new }
+        requires within { self.now.place < length steps.now }
+        requires queued { Queued (length allotment.old) new steps.now (self.now.place + 1) }
+        ensures { (fit : ℕ → ℕ → Bool) → Path fit (length allotment.old) new allotment.old steps.now self.now.place self.now.good → Allots fit (all_but (length allotment.old) new) allotment.old → Allots fit (all_of (length allotment.old)) allotment.new }
     {
-        let steps = self.steps.as_slice();
         let mut at = self.place;
         let mut given = self.good;
         // the places are those that the steps name, so that no range has them

@@ -53,9 +53,12 @@ pub returns-in_default-holders-clause-leads : goal.returns-in_default-holders-cl
 returns-in_default-holders-clause-leads g c =
     let good : ℕ = c.loop-good.good in
     let free = c.holders_of-holders.ensures.each c.loop-good.good (omega (arith, c.loop-good-test.true, c.requires.few, c.holders_of-holders.ensures.wide)) in
-    front_found _ _ _ _ _ _ _ _ c.loop-good.invariant.0 c.loop-good.invariant.1 good
-    (fits_read g.G.Suits.suiting c.args.goods.now c.args.claims.now _ _ c.loop-good.invariant.2 good c.index-goods-good.result c.serves.result c.loop-good-test.true c.index-goods-good.is c.serves.ensures ∙ c.if-not-serves.false)
-    (λ i b. unheld c.args.allotment.now c.args.new good _ c.in_default-holders.not-Some free i (omega (arith, c.requires.same)))
+    (
+      c.loop-good.invariant.1,
+      front_found _ _ _ _ _ _ _ _ c.loop-good.invariant.0 c.loop-good.invariant.1 good
+          (fits_read g.G.Suits.suiting c.args.goods.now c.args.claims.now _ _ c.loop-good.invariant.2 good c.index-goods-good.result c.serves.result c.loop-good-test.true c.index-goods-good.is c.serves.ensures ∙ c.if-not-serves.false)
+          (λ i b. unheld c.args.allotment.now c.args.new good _ c.in_default-holders.not-Some free i (omega (arith, c.requires.same))),
+    )
 
 pub push-requires-in-loop-good : goal.push-requires-in-loop-good
 push-requires-in-loop-good g c =
