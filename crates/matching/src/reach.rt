@@ -20,15 +20,17 @@ fn serves<G: Suits>(good: &G, place: usize, claim: Claim) -> bool
 }
 
 // For each good the claim that has it, but for the claim at `new`, which has none yet: an array and no map, since a rule
-// of the project has no call of the matching ask for memory.
-fn holders_of(allotment: &[usize], new: usize) -> [Option<usize>; MOST_GOODS]
+// of the project has no call of the matching ask for memory. Each call makes it anew, so that it is kept small: there are
+// few claims, and the cast of their places is proved to lose nothing.
+fn holders_of(allotment: &[usize], new: usize) -> [Option<u16>; MOST_GOODS]
+    requires { length allotment.now ≤ most_claims }
     ensures { Holders allotment.now new result }
 {
     let mut holders = [None; MOST_GOODS];
     for (i, &good) in allotment.iter().enumerate() {
         // not through `get_mut`: its proof does not close, since what the table then holds is not said
         if good < MOST_GOODS && i != new {
-            holders[good] = Some(i);
+            holders[good] = Some(i as u16);
         }
     }
     holders
@@ -73,6 +75,7 @@ pub(crate) fn reach<G: Suits>(
                 return Ok(Way { place: from, good });
             };
             sheet.0[good] = 1;
+            let claim = usize::from(claim);
             steps.push(Step { claim, from });
         }
         from += 1;

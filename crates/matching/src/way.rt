@@ -20,8 +20,8 @@ pub(crate) struct Way {
     pub(crate) good: usize,
 }
 
-// There is no way: the claims reached are too many for the goods that suit any of them. The steps have them, though
-// `admit` answers no more than that there are too many, so that a later call can list them.
+// There is no way: the claims reached are too many for the goods that suit any of them. The steps have them, so that a
+// later call can list them; `admit` answers no more than that there are too many.
 #[derive(Clone, Copy)]
 pub(crate) struct TooFew;
 

@@ -20,18 +20,28 @@ record Pushing (fit : ℕ → ℕ → Bool) (n x : ℕ) (al marks : List ℕ) (i
   other : h ≡ x → ⊥
   has : get_or al h 0 ≡ good
 
-pushing : (g : Over) (c : goal.In-Some-holders g) → Pushing (fits g.G.Suits.suiting c.args.goods.now c.args.claims.now) (length c.args.claims.now) c.args.new c.args.allotment.now c.loop-good.sheet.0.now (step_at c.loop-good.steps.items c.loop-step.from).claim c.loop-good.good c.in-Some-holders.claim
-pushing g c =
+pushing : (g : Over) (c : goal.In-Some-holders g) (h : ℕ) → h ≡ c.in-Some-holders.claim → Pushing (fits g.G.Suits.suiting c.args.goods.now c.args.claims.now) (length c.args.claims.now) c.args.new c.args.allotment.now c.loop-good.sheet.0.now (step_at c.loop-good.steps.items c.loop-step.from).claim c.loop-good.good h
+pushing g c h is =
     let good : ℕ = c.loop-good.good in
     let table = c.holders_of-holders.ensures in
     let w = subst (λ (v : Option ℕ). Holder c.args.allotment.now c.args.new good v) c.in-Some-holders.is (table.each good (omega (arith, c.loop-good-test.true, c.requires.few, table.wide))) in
     record {
       suits = fits_read g.G.Suits.suiting c.args.goods.now c.args.claims.now _ _ c.loop-good.invariant.2 good c.index-goods-good.result c.serves.result c.loop-good-test.true c.index-goods-good.is c.serves.ensures ∙ c.if-not-serves.false;
       unmarked = c.if-sheet-good-ne0.false;
-      below = omega (arith, w.0, c.requires.same);
-      other = w.1;
-      has = w.2;
+      below = omega (arith, w.0, is, c.requires.same);
+      other = λ e. w.1 (sym is ∙ e);
+      has = ap (λ (i : ℕ). get_or c.args.allotment.now i 0) is ∙ w.2;
     }
+
+-- an old step stands where it stood after a push
+same_step : (q q' : List Step) (step : Step) (k : ℕ) → q' ≡ q ++ step ∷ [] → k < length q → step_at q' k ≡ step_at q k
+same_step q q' step k is l = ap (λ (y : List Step). step_at y k) is ∙ get_or_append_left q (step ∷ []) plain k l
+
+-- what the steps then are, and how many
+front_long : (fit : ℕ → ℕ → Bool) (n x : ℕ) (al : List ℕ) (q q' : List Step) (marks : List ℕ) (head : ℕ) (step : Step) → q' ≡ q ++ step ∷ [] → Front fit n x al (q ++ step ∷ []) marks head (length q + 1) → Front fit n x al q' marks head (length q')
+front_long fit n x al q q' marks head step is f =
+    subst (λ (y : List Step). Front fit n x al y marks head (length y)) (sym is)
+    (subst (λ (k : ℕ). Front fit n x al (q ++ step ∷ []) marks head k) (sym (length-append q (step ∷ []))) f)
 
 pub loop-good-preserved-then-sheet-good-ne0 : goal.loop-good-preserved-then-sheet-good-ne0
 loop-good-preserved-then-sheet-good-ne0 g c =
@@ -52,8 +62,7 @@ loop-good-preserved-then-sheet-good-ne0 g c =
 pub returns-in_default-holders-clause-leads : goal.returns-in_default-holders-clause-leads
 returns-in_default-holders-clause-leads g c =
     let good : ℕ = c.loop-good.good in
-    let free = c.holders_of-holders.ensures.each c.loop-good.good (omega (arith, c.loop-good-test.true, c.requires.few, c.holders_of-holders.ensures.wide)) in
-    (
+    let free = c.holders_of-holders.ensures.each c.loop-good.good (omega (arith, c.loop-good-test.true, c.requires.few, c.holders_of-holders.ensures.wide)) in (
       c.loop-good.invariant.1,
       front_found _ _ _ _ _ _ _ _ c.loop-good.invariant.0 c.loop-good.invariant.1 good
           (fits_read g.G.Suits.suiting c.args.goods.now c.args.claims.now _ _ c.loop-good.invariant.2 good c.index-goods-good.result c.serves.result c.loop-good-test.true c.index-goods-good.is c.serves.ensures ∙ c.if-not-serves.false)
@@ -62,13 +71,14 @@ returns-in_default-holders-clause-leads g c =
 
 pub push-requires-in-loop-good : goal.push-requires-in-loop-good
 push-requires-in-loop-good g c =
-    let w = pushing g (goal.at.push-requires-in-loop-good g c).In-Some-holders in
+    let w = pushing g (goal.at.push-requires-in-loop-good g c).In-Some-holders c.in-Some-holders.claim refl in
     let room = front_room _ _ _ _ _ _ _ _ c.loop-good.invariant.0 c.loop-good.invariant.1 c.loop-good.good c.in-Some-holders.claim w.suits w.unmarked c.requires.one w.below w.other w.has in
     (omega arith, omega (arith, room, c.requires.crowd))
 
 pub loop-good-preserved : goal.loop-good-preserved
 loop-good-preserved g c =
-    let w = pushing g (goal.at.loop-good-preserved g c).In-Some-holders in
+    let h : ℕ = c.from-claim.result in
+    let w = pushing g (goal.at.loop-good-preserved g c).In-Some-holders h c.from-claim.ensures in
     let fit : ℕ → ℕ → Bool = fits g.G.Suits.suiting c.args.goods.now c.args.claims.now in
     let n : ℕ = length c.args.claims.now in
     let x : ℕ = c.args.new in
@@ -77,15 +87,14 @@ loop-good-preserved g c =
     let head : ℕ = c.loop-step.from in
     let q : List Step = c.loop-good.steps.items in
     let marks : List ℕ = c.loop-good.sheet.0.now in
-    let step : Step = record { claim = c.in-Some-holders.claim; from = c.loop-step.from } in
+    let step : Step = record { claim = h; from = c.loop-step.from } in
     let items = c.push-in-loop-good.ensures.items in
     let more = c.loop-good.invariant.1 in
     let ol : good < length marks = omega (arith, c.loop-good-test.true, c.loop-good.invariant.4) in
-    let same : step_at c.push-in-loop-good.new.self.items c.loop-step.from ≡ step_at c.loop-good.steps.items c.loop-step.from = ap (λ (y : List Step). step_at y head) items ∙ get_or_append_left q (step ∷ []) plain head more in
-    let long : length (q ++ step ∷ []) ≡ length q + 1 = length-append q (step ∷ []) in (
-      subst (λ (y : List Step). Front fit n x al y (set marks good 1) head (length y)) (sym items)
-          (subst (λ (k : ℕ). Front fit n x al (q ++ step ∷ []) (set marks good 1) head k) (sym long)
-          (front_push _ _ _ _ _ _ _ _ c.loop-good.invariant.0 more good c.in-Some-holders.claim w.suits w.unmarked c.requires.one w.below w.other w.has refl ol)),
+    let pushed : List Step = c.push-in-loop-good.new.self.items in
+    let same = same_step q pushed step head items more in (
+      front_long fit n x al q pushed (set marks good 1) head step items
+          (front_push _ _ _ _ _ _ _ _ c.loop-good.invariant.0 more good h w.suits w.unmarked c.requires.one w.below w.other w.has refl ol),
       omega (arith, more, c.push-in-loop-good.ensures.len),
       ap (λ (v : Step). slice_get c.args.claims.now v.claim) same ∙ c.loop-good.invariant.2,
       subst (λ (v : Step). Looked fit (set marks good 1) v.claim (good + 1)) (sym same) (looked_push fit marks (step_at q head).claim good ol c.loop-good.invariant.3),
