@@ -10,6 +10,7 @@ use Rattle.compound.specs.declared.bank.Bank.{Bank}
 use Rattle.compound.specs.declared.quota.Quota.{Quota}
 use Rattle.compound.specs.Joined.{bank, joined}
 use Rattle.compound.specs.Limited.{quota, limited}
+use Rattle.machine.specs.Entries.{Consistent}
 use Rattle.machine.specs.Machine.{start}
 use Rattle.broker.specs.declared.desk.Broker.{Broker}
 use Rattle.broker.specs.View.{view}
@@ -36,7 +37,8 @@ pub record Stocked (s : Goods) : Type 0 where
   pub ruled : goods.rules s ≡ meeting_rules
   pub unclaimed : goods.book s ≡ []
 
--- the broker as it is made: over these rules, at the machine's first state
+-- the broker as it is made: consistent, over these rules, at the machine's first state
 pub record Opens (b : Broker Goods goods) : Type 0 where
+  pub consistent : Consistent (view goods b)
   pub ruled : goods.rules b.resource ≡ meeting_rules
   pub state : view goods b ≡ start 1 []

@@ -6,7 +6,6 @@ use Rattle.resource.specs.declared.Resource.{Ghosts}
 use Rattle.machine.specs.declared.Refusal.{Refusal}
 use Rattle.machine.specs.Machine.{State, Answer as MachineAnswer, step}
 use Rattle.machine.specs.Entries.{Consistent}
-use Rattle.machine.proofs.Keeping.{step_keeps}
 use Rattle.broker.specs.declared.call.Answer.{Answer}
 use Rattle.broker.specs.declared.call.Call.{Call}
 use Rattle.broker.specs.declared.desk.Broker.{Broker}
@@ -81,16 +80,13 @@ module _ {X : Type 0} (m : Ghosts X) where
         added = added;
         told = told;
         machine = settled_view (by_broker m) (by_machine rules) (view m) (Over rules) (each_call rules) r b b' script rows refl told;
+        kept = λ ok. holds-after (by_broker m) (by_broker m) (λ d. d) (λ d. Consistent (view m d)) (λ d call words d' k dealt. (dealt.1.kept k, dealt)) r b b' script rows ok told;
         same = holds-after (by_broker m) (by_machine rules) (view m) (Over rules) (each_call rules) r b b' script rows refl told;
       }
 
   -- a script keeps a broker consistent
   pub runs_consistent : {T E : Type 0} (r : Result T E) (b b' : Broker X m) (script old new : List ℕ) → Runs m b script old r new b' → Consistent (view m b) → Consistent (view m b')
-  runs_consistent r b b' script old new h ok =
-      let rules = m.rules b.resource in
-      holds-after (by_machine rules) (by_machine rules) (λ s. s) Consistent
-      (λ s c w t k told. (subst Consistent (sym (ap (λ (u : State × MachineAnswer). u.0) told.1)) (step_keeps rules s (call_of c) k), told))
-      r (view m b) (view m b') script h.rows ok h.machine
+  runs_consistent r b b' script old new h = h.kept
 
   pub runs_too_long : {T E : Type 0} (r : Result T E) (b : Broker X m) (script old new : List ℕ) → most_bytes < length script → new ≡ cond (is_ok r) (old ++ row_bytes 0 (said (Err TooLong))) old → Runs m b script old r new b
   runs_too_long (Ok x) b script old new long is = runs (Ok x) b b script old new _ is (record { long = λ _. (refl, refl); short = λ l. absurd (omega arith) })

@@ -3,6 +3,7 @@ use Rattle.std.specs.Prelude.{◌≡◌, ℕ, cond, List, ◌++◌, is_ok, Ok, E
 use Rattle.claims.specs.Rules.{Rules}
 use Rattle.resource.specs.declared.Resource.{Ghosts}
 use Rattle.machine.specs.declared.Refusal.{Refusal}
+use Rattle.machine.specs.Entries.{Consistent}
 use Rattle.machine.specs.Machine.{State, Answer as MachineAnswer, step}
 use Rattle.broker.specs.declared.call.Answer.{Answer}
 use Rattle.broker.specs.declared.call.Call.{Call}
@@ -46,6 +47,7 @@ pub record Runs {X : Type 0} (m : Ghosts X) {T E : Type 0} (b : Broker X m) (scr
   pub added : new ≡ old ++ rows
   pub told : Settled (by_broker m) r b script rows b'
   pub machine : Settled (by_machine (m.rules b.resource)) r (view m b) script rows (view m b')
+  pub kept : Consistent (view m b) → Consistent (view m b')
   pub same : m.rules b'.resource ≡ m.rules b.resource
 
 -- over the same rules, from the same state, the same lines have the same rows and lead to the same state

@@ -9,6 +9,7 @@ returns c =
     let s = c.in_ok-stock.ensures in
     let b = c.in_ok-new.ensures in
     record {
+      consistent = b.consistent;
       ruled = ap goods.rules b.goods ∙ s.ruled;
       state = b.state ∙ ap (λ (z : Book). start 1 z) s.unclaimed;
     }

@@ -1,4 +1,4 @@
-use Rattle.std.proofs.Common.{◌≡◌, set, None, vec_items, sym, refl, ap, ◌∙◌}
+use Rattle.std.proofs.Common.{◌≡◌, set, None, vec_items, sym, refl, ap, ◌∙◌, rules}
 use Rattle.std.proofs.lemmas.List.{map-set}
 use Rattle.machine.specs.Entries.{Consistent}
 use Rattle.machine.specs.Machine.{State, Answer, keys_of, out_all, draws, step}
@@ -9,10 +9,13 @@ use Rattle.broker.specs.Calls.{drawn_units}
 use Rattle.broker.specs.Held.{state, live_view, promise_view}
 use Rattle.broker.specs.Holds.{as_taken}
 use Rattle.broker.specs.View.{view}
-use Rattle.broker.proofs.Consistency.{by_consistent, stepped_keeps}
+use Rattle.broker.proofs.Consistency.{by_consistent, stepped_keeps, is_step}
 use Rattle.broker.proofs.Taking.{take_done, held_there, held_passed, held_waits, never_short}
 use Rattle.broker.proofs.desk.Broker.hand_over.Goals as goal
 use Rattle.broker.proofs.desk.Broker.hand_over.Goals.{After-index_mut}
+
+pub returns-in_err-i : goal.returns-in_err-i
+returns-in_err-i g c = record { kept = c.at_minute.ensures.kept; same = c.at_minute.ensures.same; after = search rules }
 
 pub invariant_of-self-in-Break-branch-2 : goal.invariant_of-self-in-Break-branch-2
 invariant_of-self-in-Break-branch-2 g c =
@@ -55,7 +58,4 @@ invariant_of-self-2-clause-consistent g c =
     stepped_keeps b.consistent c.at_minute.new.self.consistent (g.R.Resource.rules b.resource) (take c.args.minute c.args.party.0 c.args.number.0) _ _ (taken g (goal.at.invariant_of-self-2-clause-consistent g c).After-index_mut)
 
 pub returns : goal.returns
-returns g c = record {
-  same = c.in_ok-units.ensures.same ∙ c.at_minute.ensures.same;
-  after = by_consistent c.at_minute.new.self.consistent (taken g (goal.at.returns g c).After-index_mut);
-}
+returns g c = is_step g.R.Resource _ _ (c.in_ok-units.ensures.same ∙ c.at_minute.ensures.same) (by_consistent c.at_minute.new.self.consistent (taken g (goal.at.returns g c).After-index_mut))
