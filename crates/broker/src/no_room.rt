@@ -4,7 +4,7 @@ ghost use Rattle.std.specs.Prelude.{◌≡◌};
 use std::alloc::AllocError;
 
 /// Memory is too short for a broker. The resource that it was to stand over is handed back.
-#[derive(Drop)]
+#[derive(Clone, Copy, PartialEq, Eq, Debug, Drop)]
 pub struct NoRoom<R> {
     pub error: AllocError,
     pub resource: R,
