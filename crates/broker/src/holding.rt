@@ -19,7 +19,13 @@ pub(crate) fn lapse<R: Resource>(live: &mut Vec<Promise>, resource: &mut R, cloc
     ensures stand { live_view live.new.items ≡ still_standing clock (live_view live.old.items) }
     ensures lifted { Rebooks R.Resource resource.old resource.new (book_kept clock (live_view live.old.items) (R.Resource.book resource.old)) }
 {
-    for promise in live.iter() {
+    let mut promises = live.iter();
+    // mostly none lapses, and then this is the only walk
+    let Some(first) = promises.find(|promise| promise.lapses(clock)) else {
+        return;
+    };
+    lift_claims(resource, first);
+    for promise in promises {
         if promise.lapses(clock) {
             lift_claims(resource, promise);
         }

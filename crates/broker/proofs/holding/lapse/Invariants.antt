@@ -1,4 +1,4 @@
-use Rattle.std.proofs.Common.{◌≡◌, drop}
+use Rattle.std.proofs.Common.{◌≡◌}
 use Rattle.broker.specs.Held.{live_view}
 use Rattle.machine.specs.Machine.{kept}
 use Rattle.broker.proofs.holding.lapse.Given as goal
@@ -7,4 +7,4 @@ abbrev pub invariant-loop-promise : goal.invariant-loop-promise
 invariant-loop-promise g l =
     let m = g.R.Resource in
     (m.rules l.resource ≡ m.rules l.initial.resource) ×
-    (kept l.clock (live_view (drop l.promise-index l.promise-items)) (m.book l.resource) ≡ kept l.clock (live_view l.promise-items) (m.book l.initial.resource))
+    (kept l.clock (live_view l.promise-iterator.rest.now) (m.book l.resource) ≡ kept l.clock (live_view l.initial.promise-iterator.rest.now) (m.book l.initial.resource))
