@@ -3,7 +3,7 @@ use Rattle.std.specs.Prelude.{◌≡◌, ℕ, ◌+◌, ◌≤◌, Bool, true, fa
 use Rattle.std.proofs.Common.{sym, ap, ◌∙◌, arith}
 use Rattle.std.specs.List.{sum_by}
 use Rattle.std.proofs.lemmas.List.Sums.{sum_by-cons}
-use Rattle.std.proofs.lemmas.Bool.{leb-true, le-leb, cond_both}
+use Rattle.std.proofs.lemmas.Bool.{leb-true, le-leb, cond_both, eqb-true, eq-eqb}
 use Rattle.claims.specs.declared.Cause.TheVariants.{PoolShort}
 use Rattle.claims.specs.declared.Claim.{Claim}
 use Rattle.claims.specs.Book.{Book, key_of, find, insert, without, sent, out}
@@ -38,6 +38,25 @@ pub quantities-out : (k u : ℕ) (b : Book) → quantities (out k u b) ≡ quant
 quantities-out k u [] = refl
 quantities-out k u (c ∷ b) =
     cond_both (key_of c == k) (sent u c ∷ b) (c ∷ out k u b) (λ r. quantities r ≡ quantities (c ∷ b)) (λ e. refl) (λ e. ap (λ n. c.demand.first + n) (quantities-out k u b))
+
+-- a kept sum is that of a book's quantities
+abbrev pub used_for : ℕ → Book → Bool
+used_for used b = used == quantities b
+
+pub used-alike : (used k u : ℕ) (b : Book) → used_for used b ≡ true → used_for used (out k u b) ≡ true
+used-alike used k u b e = ap (λ (n : ℕ). used == n) (quantities-out k u b) ∙ e
+
+-- a claim that comes in adds its quantity
+pub used-insert : (used used' : ℕ) (x : Claim) (b : Book) → used_for used b ≡ true → used' ≡ used + x.demand.first → used_for used' (insert x b) ≡ true
+used-insert used used' x b e more =
+    let same = eqb-true used (quantities b) e in
+    eq-eqb used' (quantities (insert x b)) (omega (arith, quantities-insert x b, same, more))
+
+-- a claim that leaves takes its quantity along
+pub used-lift : (used used' k : ℕ) (x : Claim) (b : Book) → used_for used b ≡ true → find b k ≡ Some x → used' + x.demand.first ≡ used → used_for used' (without k b) ≡ true
+used-lift used used' k x b e f less =
+    let same = eqb-true used (quantities b) e in
+    eq-eqb used' (quantities (without k b)) (omega (arith, quantities_lift k x b f, same, less))
 
 abbrev pub pool-goods : ℕ → Fixed
 pool-goods n = record {

@@ -1,4 +1,5 @@
 -- The rules and the book of the goods on a shelf.
+use Rattle.std.specs.Prelude.{true}
 use Rattle.claims.specs.Book.{Book}
 use Rattle.claims.specs.Held.{claims_book}
 use Rattle.claims.specs.Rules.{Rules}
@@ -10,16 +11,16 @@ use Rattle.goods.specs.Fixed.{rules_of}
 use Rattle.goods.specs.Items.{named-goods}
 use Rattle.goods.specs.NamedGoods.{named}
 use Rattle.goods.specs.Pooled.{pool}
-use Rattle.goods.specs.Pools.{pool-goods}
+use Rattle.goods.specs.Pools.{pool-goods, used_for}
 
 abbrev pub stock_rules : {G : Type 0} (g : Ghosts G) → Stock G g → Rules
 stock_rules g s = rules_of s.shelf (g.goods s.goods)
 
 abbrev pub quantity : Ghosts Quantity
-quantity = record { goods = λ u. pool-goods u.size }
+quantity = record { goods = λ u. pool-goods u.size; noted = λ u b. used_for u.used b }
 
 abbrev pub items : Ghosts Items
-items = record { goods = λ i. named-goods i.count i.sized }
+items = record { goods = λ i. named-goods i.count i.sized; noted = λ _ _. true }
 
 abbrev pub Pool : Type 0
 Pool = Stock Quantity quantity

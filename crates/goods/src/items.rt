@@ -51,9 +51,15 @@ fn is_promised(claims: &Claims, item: u32) -> bool
 }
 
 impl Goods for Items {
+    ghost use Rattle.std.specs.Prelude.{true};
     ghost use Rattle.goods.specs.Items.{named-goods};
 
     ghost goods = { λ i. named-goods i.count i.sized };
+
+    // named goods look through the claims, and keep nothing of them
+    ghost noted = { λ _ _. true };
+
+    ghost alike = { λ _ _ _ _ noted. noted };
 
     // as for a quantity but for the most: the common text, with that as its argument, is `gives_one_number`
     fn is_formed(&self, demand: Demand) -> bool {
@@ -72,6 +78,10 @@ impl Goods for Items {
         let item = claim.demand.first;
         !is_promised(claims, item) && item <= self.count
     }
+
+    fn note(&mut self, _claim: Claim) {}
+
+    fn forget(&mut self, _claim: Claim) {}
 
     fn shortage(&self) -> Cause {
         Cause::ItemTaken

@@ -1,7 +1,5 @@
-ghost use Rattle.std.specs.Prelude.{◌≡◌, ◌≤◌, ◌<◌, ◌^◌};
-ghost use Rattle.claims.specs.Held.{claims_book};
+ghost use Rattle.std.specs.Prelude.{◌≤◌};
 ghost use Rattle.claims.specs.Limits.{most_units};
-ghost use Rattle.goods.specs.Pooled.{quantities};
 
 use crate::kind::Goods;
 use crate::stock::Stock;
@@ -16,6 +14,8 @@ const UNNUMBERED: u32 = 0;
 #[derive(Drop)]
 pub struct Quantity {
     size: u32,
+    // the quantities of all claims, waiting and out: kept, so that no claim is weighed by a walk over the others
+    used: u32,
     ghost sized: { size ≤ most_units },
 }
 
@@ -35,27 +35,18 @@ impl Pool {
         ensures escrow { EscrowRule shelf (min size most_units) }
     {
         let size = size.min(MOST_UNITS);
-        Stock::with_goods(heap, shelf, Quantity { size })
+        Stock::with_goods(heap, shelf, Quantity { size, used: 0 })
     }
 }
 
-// The quantities of all claims, waiting and out. There are few claims, and each quantity is small, so that the sum has
-// room for one more.
-fn promised(claims: &Claims) -> u64
-    ensures value { result ≡ quantities (claims_book claims.now) }
-    ensures small { result < 2 ^ 40 }
-{
-    claims
-        .as_slice()
-        .iter()
-        .map(|claim| u64::from(claim.demand.first))
-        .sum()
-}
-
 impl Goods for Quantity {
-    ghost use Rattle.goods.specs.Pools.{pool-goods};
+    ghost use Rattle.goods.specs.Pools.{pool-goods, used_for, used-alike};
 
     ghost goods = { λ u. pool-goods u.size };
+
+    ghost noted = { λ u b. used_for u.used b };
+
+    ghost alike = { λ u k n b. used-alike u.used k n b };
 
     // as for items but for the most: the common text, with that as its argument, is `gives_one_number`
     fn is_formed(&self, demand: Demand) -> bool {
@@ -71,8 +62,16 @@ impl Goods for Quantity {
         ItemNumber(UNNUMBERED)
     }
 
-    fn suffice_with(&self, claims: &Claims, claim: Claim) -> bool {
-        promised(claims) + u64::from(claim.demand.first) <= u64::from(self.size)
+    fn suffice_with(&self, _claims: &Claims, claim: Claim) -> bool {
+        self.used.saturating_add(claim.demand.first) <= self.size
+    }
+
+    fn note(&mut self, claim: Claim) {
+        self.used = self.used.saturating_add(claim.demand.first);
+    }
+
+    fn forget(&mut self, claim: Claim) {
+        self.used = self.used.saturating_sub(claim.demand.first);
     }
 
     fn shortage(&self) -> Cause {

@@ -17,16 +17,18 @@ pub struct Stock<G: Goods> {
     goods: G,
     claims: Claims,
     ghost carries: { (rules_of shelf (G.goods goods)).carries (claims_book claims) ≡ true },
+    ghost noted: { G.Goods.noted goods (claims_book claims) ≡ true },
     ghost reads: { every (readable (rules_of shelf (G.goods goods))) (claims_book claims) ≡ true },
 }
 
 impl<G: Goods + Drop> Stock<G> {
-    ghost use Rattle.std.specs.Prelude.{IfOk};
+    ghost use Rattle.std.specs.Prelude.{IfOk, []};
     ghost use Rattle.goods.specs.Views.{stock_rules};
     ghost use Rattle.shelf.specs.Shelves.{Opened};
 
     // The goods on a shelf, with no claims.
     pub(crate) fn with_goods(heap: Global, shelf: u32, goods: G) -> Result<Stock<G>, AllocError>
+        requires { G.Goods.noted goods [] ≡ true }
         ensures { IfOk result (λ s. Opened (rules_of shelf (G.goods goods)) (stock_rules G.Goods s) (claims_book s.claims)) }
     {
         let claims = Claims::new(heap)?;
@@ -96,6 +98,7 @@ impl<G: Goods> Resource for Stock<G> {
                 key: claim.key,
             });
         }
+        self.goods.note(claim);
         // the key is new and there is room for it, so this succeeds
         let _ = self.claims.insert(claim);
         Ok(())
@@ -110,7 +113,8 @@ impl<G: Goods> Resource for Stock<G> {
 
     fn lift(&mut self, key: ClaimKey) -> Result<(), Fault> {
         let cause = Cause::NoSuchKey;
-        self.claims.remove(key).ok_or(Fault { cause, key })?;
+        let claim = self.claims.remove(key).ok_or(Fault { cause, key })?;
+        self.goods.forget(claim);
         Ok(())
     }
 

@@ -5,7 +5,7 @@ use Rattle.goods.specs.Items.{in_stock-insert}
 use Rattle.goods.proofs.items.ItemsGoods.suffice_with.Goals as goal
 
 pub returns-then-not-is_promised : goal.returns-then-not-is_promised
-returns-then-not-is_promised c e = grind (arith, in_stock-insert c.args.self.now.count c.args.claim (claims_book c.args.claims.now) e)
+returns-then-not-is_promised c _ e = grind (arith, in_stock-insert c.args.self.now.count c.args.claim (claims_book c.args.claims.now) e)
 
 pub returns-else-not-is_promised : goal.returns-else-not-is_promised
-returns-else-not-is_promised c e = grind (arith, in_stock-insert c.args.self.now.count c.args.claim (claims_book c.args.claims.now) e)
+returns-else-not-is_promised c _ e = grind (arith, in_stock-insert c.args.self.now.count c.args.claim (claims_book c.args.claims.now) e)

@@ -1,5 +1,5 @@
 -- A claim goes out with the unit of its demand, the only one with which the book stays carried.
-use Rattle.std.proofs.Common.{sym}
+use Rattle.std.proofs.Common.{sym, ap, ◌∙◌}
 use Rattle.claims.specs.Held.{claims_book}
 use Rattle.goods.specs.Fixed.{Gone, rules_of, goes-out_as}
 use Rattle.goods.proofs.stock.StockResource.draw.Given.{Over}
@@ -12,7 +12,14 @@ gone g c =
     goes-out_as s.shelf (g.G.Goods.goods s.goods) c.args.key (claims_book s.claims) _ c.in_ok-claim.claim c.unit-unit.result s.carries s.reads (sym c.in_ok-claim.ensures) c.unit-unit.ensures c.send_out.ensures
 
 pub invariant_of-self : goal.invariant_of-self
-invariant_of-self g c = let w = gone g c in record { carries = w.carried; reads = w.all_read }
+invariant_of-self g c =
+    let s = c.args.self.now in
+    let w = gone g c in
+    record {
+      carries = w.carried;
+      noted = ap (g.G.Goods.noted s.goods) c.send_out.ensures ∙ g.met.G.Goods.alike s.goods c.args.key.0 c.unit-unit.result.0 (claims_book s.claims) s.noted;
+      reads = w.all_read;
+    }
 
 pub returns : goal.returns
 returns g c = (gone g (goal.at.returns g c).After-send_out).drawn

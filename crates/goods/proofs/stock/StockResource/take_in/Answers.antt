@@ -1,8 +1,11 @@
 -- Goods take in what their rules do not refuse.
-use Rattle.std.proofs.Common.{sym, refl}
+use Rattle.std.proofs.Common.{◌≡◌, true, sym, refl, ap, ◌∙◌, subst}
+use Rattle.std.proofs.lemmas.Bool.{and_parts}
 use Rattle.std.proofs.lemmas.Result.{err_from_is_err_and}
+use Rattle.claims.specs.Book.{insert, every}
 use Rattle.claims.specs.Held.{claims_book}
-use Rattle.goods.specs.Fixed.{kind_of}
+use Rattle.claims.specs.Rules.{readable}
+use Rattle.goods.specs.Fixed.{Fixed, kind_of, proper, rules_of}
 use Rattle.shelf.proofs.Shelving.{Entered, turned_away, falls_short, comes_in}
 use Rattle.goods.proofs.stock.StockResource.take_in.Given.{Over}
 use Rattle.goods.proofs.stock.StockResource.take_in.Goals as goal
@@ -25,8 +28,20 @@ in-book g c =
     let s = c.args.self.now in
     comes_in s.shelf (kind_of (g.G.Goods.goods s.goods)) (claims_book s.claims) c.args.claim _ refl (claims_book c.insert.new.self) s.reads c.in_ok-check_claim.ensures (sym c.if-not-is_enough_with.ensures) c.insert.ensures.after
 
-pub invariant_of-self : goal.invariant_of-self
-invariant_of-self g c = let e = in-book g c in record { carries = e.carried; reads = e.all_read }
+pub invariant_of-self-clause-carries : goal.invariant_of-self-clause-carries
+invariant_of-self-clause-carries g c = rw c.note.ensures.same (in-book g c).carried
+
+-- the goods suffice for the claim, so that they have noted it
+pub invariant_of-self-clause-noted : goal.invariant_of-self-clause-noted
+invariant_of-self-clause-noted g c =
+    let s = c.args.self.now in
+    let f = g.G.Goods.goods s.goods in
+    let b = insert c.args.claim (claims_book s.claims) in
+    let enough = and_parts (f.suffice b) (every (proper f) b) (sym c.if-not-is_enough_with.ensures) in
+    ap (g.G.Goods.noted c.note.new.self) (in-book g c).inserted ∙ c.note.ensures.kept (claims_book s.claims) s.noted enough.0
+
+pub invariant_of-self-clause-reads : goal.invariant_of-self-clause-reads
+invariant_of-self-clause-reads g c = subst (λ (f : Fixed). every (readable (rules_of c.args.self.now.shelf f)) (claims_book c.insert.new.self) ≡ true) (sym c.note.ensures.same) (in-book g c).all_read
 
 pub returns : goal.returns
-returns g c = (in-book g (goal.at.returns g c).After-insert).placed
+returns g c = rw c.note.ensures.same (in-book g (goal.at.returns g c).After-insert).placed
