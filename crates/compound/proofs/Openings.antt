@@ -7,7 +7,7 @@ use Rattle.claims.specs.declared.Demand.{Demand}
 use Rattle.claims.specs.Book.{Book, find, key_of}
 use Rattle.claims.specs.Rules.{Rules, is_party, answered}
 use Rattle.resource.specs.declared.Resource.{Ghosts}
-use Rattle.compound.specs.Asked.{turned_away}
+use Rattle.compound.specs.Asked.{taken, turned_away}
 use Rattle.compound.specs.Opened.{opened, open_book, Fresh}
 
 -- what reads a demand is open
@@ -38,6 +38,14 @@ asked o r b x {read} {held} e f y =
       readable = ap (λ v. is_party x.party && v) (sym (rw is at e)) ∙ z.0;
       new = sym (rw is at f) ∙ z.1;
     }
+
+-- the two questions of a claim are one
+pub both_asked : (x : Claim) (read : Bool) (held : Option Claim) → Ok tt ≡ answered x.key (turned_away read None x) → Ok tt ≡ answered x.key (taken held) → Ok tt ≡ answered x.key (turned_away read held x)
+both_asked x read held e f = go (is_party x.party && read) e
+  where
+    go : (t : Bool) → Ok tt ≡ answered x.key (cond t None (Some Unreadable)) → Ok tt ≡ answered x.key (cond t (taken held) (Some Unreadable))
+    go true e = f
+    go false e = absurd cc
 
 -- open or closed, it carries the same books
 pub opened-carries : (o : Bool) (r : Rules) (b : Book) (P : Type 0) → Decides (r.carries b) P → Decides ((opened o r).carries b) P

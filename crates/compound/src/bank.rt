@@ -4,7 +4,7 @@ ghost use Rattle.std.proofs.Props.{props};
 ghost use Rattle.claims.specs.Book.{Book, merge};
 ghost use Rattle.compound.specs.Sides.{Sides};
 
-use crate::asking::{check_claim, check_open};
+use crate::asking::{check_new, check_open, check_read};
 use claims::{Cause, Claim, ClaimKey, Demand, Fault, ItemNumber, MOST_CLAIMS, Party};
 use resource::Resource;
 
@@ -59,7 +59,8 @@ impl<F: Resource, S: Resource> Resource for Bank<F, S> {
     ghost standing = { λ s. bank_stands F.Resource.own S.Resource.own s (F.Resource.standing s.first) (S.Resource.standing s.second) };
 
     fn take_in(&mut self, claim: Claim) -> Result<(), Fault> {
-        check_claim(claim, self.reads(claim.demand), self.claim(claim.key))?;
+        check_read(claim, self.reads(claim.demand))?;
+        check_new(claim, self.claim(claim.key))?;
         if self.count() >= MOST_CLAIMS {
             return Err(Fault {
                 cause: Cause::TooManyClaims,

@@ -5,7 +5,7 @@ ghost use Rattle.claims.specs.Book.{Book};
 ghost use Rattle.claims.specs.Limits.{last_party};
 ghost use Rattle.compound.specs.Limits.{KeepsLimits, limit_of};
 
-use crate::asking::{check_claim, check_open};
+use crate::asking::{check_new, check_open, check_read};
 use claims::{Cause, Claim, ClaimKey, Demand, Fault, ItemNumber, LAST_PARTY, Party};
 use resource::Resource;
 
@@ -76,7 +76,8 @@ impl<R: Resource> Resource for Quota<R> {
     ghost standing = { λ s. quota_stands R.Resource.own s (R.Resource.standing s.below) };
 
     fn take_in(&mut self, claim: Claim) -> Result<(), Fault> {
-        check_claim(claim, self.reads(claim.demand), self.claim(claim.key))?;
+        check_read(claim, self.reads(claim.demand))?;
+        check_new(claim, self.claim(claim.key))?;
         let before = self.below.party_units(claim.party);
         let units = before + self.below.units(claim.demand);
         if units > self.limit(claim.party) {
