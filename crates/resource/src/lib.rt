@@ -24,7 +24,7 @@ pub trait Resource {
 
     /// Takes in a claim that waits. A key, a party and a demand are what a caller has; with a state they are a `Claim`,
     /// which `take_in` takes.
-    final fn place(&mut self, key: ClaimKey, party: Party, demand: Demand) -> Result<(), Fault>
+    fn place(&mut self, key: ClaimKey, party: Party, demand: Demand) -> Result<(), Fault>
         ensures { Placed (waiting key party demand) (rules self.old) (book self.old) result (rules self.new) (book self.new) }
     {
         self.take_in(Claim::waiting(key, party, demand))
@@ -32,7 +32,7 @@ pub trait Resource {
 
     /// Takes in a claim that is out with a unit.
     // Its arguments stand one by one, as those of `place`.
-    final fn seat(
+    fn seat(
         &mut self,
         key: ClaimKey,
         party: Party,

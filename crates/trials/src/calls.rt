@@ -21,11 +21,11 @@ fn told<T: Drop>(res: Result<T, Fault>) -> u8 {
     res.err().map_or(0, |fault| fault.cause.number())
 }
 
-// The refusals of any resource that reads this demand.
-fn try_refusals<R: Resource>(
+// The refusals of any resource that reads this demand; it may be of any kind, so that each call has to go at a `dyn`.
+fn try_refusals(
     rt: &HostRuntime,
     name: &str,
-    goods: &mut R,
+    goods: &mut dyn Resource,
     demand: Demand,
 ) -> io::Result<()> {
     let stranger = told(goods.place(ClaimKey(1), Party(33), demand));
