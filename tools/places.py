@@ -99,7 +99,7 @@ def three():
 def four():
     show("4 comparisons of what a newtype holds", lines(r"\.0 (==|!=|<|<=|>|>=) "))
     show("4 fields copied one by one", lines(r"^ *([a-z]+): [a-z]+\.\1,$"))
-    show("4 casts", lines(r" as (u8|u32|u64|usize)\b"))
+    show("4 casts", lines(r" as (u8|u16|u32|u64|usize)\b"))
     show("4 conversions and printing", lines(r"^impl.* (From|TryFrom|Display|PartialEq|Ord|Clone|fmt::Display)\b|fn number"))
 
 

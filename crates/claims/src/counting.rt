@@ -9,6 +9,7 @@ use crate::Demand;
 pub trait Counting {
     ghost counts: { Self → Demand → ℕ };
 
+    /// How many units a demand counts.
     fn units_of(&self, demand: Demand) -> usize
         ensures value { result ≡ counts self.now demand }
         ensures small { result ≤ most_units };
