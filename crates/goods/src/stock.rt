@@ -5,9 +5,9 @@ ghost use Rattle.claims.specs.Rules.{readable};
 ghost use Rattle.goods.specs.Fixed.{rules_of};
 
 use crate::kind::Goods;
-use claims::{Cause, Claim, ClaimKey, Claims, Counting, Demand, Fault, ItemNumber, Party};
+use claims::{Claim, ClaimKey, Claims, Counting, Demand, Fault, ItemNumber, Party};
 use resource::Resource;
-use shelf::{check_entry, is_on_shelf, waiting_under};
+use shelf::{check_entry, held_under, is_on_shelf, waiting_under};
 use std::alloc::{AllocError, Global};
 
 /// Goods on a shelf, and the claims on them.
@@ -112,8 +112,8 @@ impl<G: Goods> Resource for Stock<G> {
     }
 
     fn lift(&mut self, key: ClaimKey) -> Result<(), Fault> {
-        let cause = Cause::NoSuchKey;
-        let claim = self.claims.remove(key).ok_or(Fault { cause, key })?;
+        let claim = held_under(&self.claims, key)?;
+        let _ = self.claims.remove(key);
         self.goods.forget(claim);
         Ok(())
     }

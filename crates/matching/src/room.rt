@@ -5,20 +5,28 @@ ghost use Rattle.matching.specs.Rooms.{room_suits, room_formed};
 use crate::suits::Suits;
 use claims::Demand;
 
+/// A bath.
 pub const BATH: u8 = 1;
 
+/// A shower.
 pub const SHOWER: u8 = 2;
 
+/// Twin beds.
 pub const TWIN_BEDS: u8 = 4;
 
+/// On the ground floor.
 pub const GROUND_FLOOR: u8 = 8;
 
+/// A view.
 pub const VIEW: u8 = 16;
 
+/// In the quiet wing.
 pub const QUIET_WING: u8 = 32;
 
+/// Dogs may stay.
 pub const DOGS: u8 = 64;
 
+/// A suite.
 pub const SUITE: u8 = 128;
 
 /// The set of all features.

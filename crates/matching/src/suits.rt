@@ -11,9 +11,11 @@ pub trait Suits {
     /// Whether a demand is well formed for goods of this kind.
     ghost formed: { Demand → Bool };
 
+    /// Whether the good suits a demand.
     fn suits(&self, demand: Demand) -> bool
         ensures { result ≡ suiting self.now demand };
 
+    /// Whether a demand is well formed for goods of this kind.
     fn is_formed(demand: Demand) -> bool
         ensures { result ≡ formed demand };
 }

@@ -25,7 +25,7 @@ pub fn gives_one_number(demand: Demand, most: u32) -> bool
 }
 
 /// Turns a claim away before the goods are looked at; `read` says whether its demand is read, which is for the kind of
-/// goods to say. A bank or a quota has no `Claims`, so it asks the same of its parts in a function of its own.
+/// goods to say. A bank or a quota has no `Claims`, so it asks the same of its parts in functions of its own.
 pub fn check_entry(claims: &Claims, claim: Claim, read: bool) -> Result<(), Fault>
     ensures { result ≡ answered claim.key (barred read (claims_book claims.now) claim) }
 {

@@ -1,5 +1,5 @@
 -- The quantities with one claim more are what decides.
-use Rattle.std.proofs.Common.{arith, ◌<◌}
+use Rattle.std.proofs.Common.{arith}
 use Rattle.std.proofs.lemmas.Bool.{eqb-true}
 use Rattle.claims.specs.Held.{claims_book}
 use Rattle.goods.specs.Pooled.{quantities}
