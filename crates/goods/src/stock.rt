@@ -77,8 +77,9 @@ impl<G: Goods> Counting for Stock<G> {
     }
 }
 
-// `lift`, `claim`, `count`, `units` and `party_units` are each one call of what all goods share. A list of goods has
-// the same five, and no kind stands over both: a list's goods move at each claim, which goods like these do not.
+// `claim`, `count`, `units` and `party_units` are each one call of what all goods share, and a lift has the goods forget
+// the claim. A list of goods has the same five, and no kind stands over both: a list's goods move at each claim, which
+// goods like these do not.
 impl<G: Goods> Resource for Stock<G> {
     ghost use Rattle.claims.proofs.Ranks.{rises_says};
     ghost use Rattle.goods.specs.Fixed.{fixed_laws};

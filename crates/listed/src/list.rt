@@ -65,8 +65,8 @@ impl<G: Suits> Counting for Listed<G> {
     }
 }
 
-// Its `lift` and its questions are those of a `Stock`, one call each of what both share, `Claims` and crate shelf. One
-// kind for both would need a list's goods to move at each claim, which those of a `Stock` do not.
+// Its questions are those of a `Stock`, one call each of what both share, `Claims` and crate shelf. One kind for both would
+// need a list's goods to move at each claim, which those of a `Stock` do not.
 impl<G: Suits> Resource for Listed<G> {
     ghost use Rattle.listed.specs.Lawful.{list_standing};
     ghost use Rattle.listed.specs.Views.{list_rules, list_book};
