@@ -4,6 +4,7 @@ use Rattle.claims.specs.Book.{Book}
 use Rattle.claims.specs.Held.{claims_book}
 use Rattle.claims.specs.Rules.{Rules}
 use Rattle.goods.specs.declared.kind.Goods.{Ghosts}
+use Rattle.goods.specs.declared.noting.NotingGoods.{Ghosts as NotingGhosts}
 use Rattle.goods.specs.declared.items.Items.{Items}
 use Rattle.goods.specs.declared.stock.Stock.{Stock}
 use Rattle.goods.specs.declared.quantity.Quantity.{Quantity}
@@ -13,20 +14,28 @@ use Rattle.goods.specs.NamedGoods.{named}
 use Rattle.goods.specs.Pooled.{pool}
 use Rattle.goods.specs.Pools.{pool-goods, used_for}
 
-abbrev pub stock_rules : {G : Type 0} (g : Ghosts G) → Stock G g → Rules
+abbrev pub stock_rules : {G : Type 0} (g : NotingGhosts G) → Stock G g → Rules
 stock_rules g s = rules_of s.shelf (g.goods s.goods)
 
 abbrev pub quantity : Ghosts Quantity
-quantity = record { goods = λ u. pool-goods u.size; noted = λ u b. used_for u.used b }
+quantity = record { goods = λ u. pool-goods u.size }
+
+-- a quantity that has noted the claims of a book keeps their sum
+abbrev pub noting_quantity : NotingGhosts Quantity
+noting_quantity = record { goods = quantity.goods; noted = λ u b. used_for u.used b }
 
 abbrev pub items : Ghosts Items
-items = record { goods = λ i. named-goods i.count i.sized; noted = λ _ _. true }
+items = record { goods = λ i. named-goods i.count i.sized }
+
+-- items keep nothing of the claims, so that they have noted those of any book
+abbrev pub noting_items : NotingGhosts Items
+noting_items = record { goods = items.goods; noted = λ _ _. true }
 
 abbrev pub Pool : Type 0
-Pool = Stock Quantity quantity
+Pool = Stock Quantity noting_quantity
 
 abbrev pub Named : Type 0
-Named = Stock Items items
+Named = Stock Items noting_items
 
 abbrev pub pool_rules : Pool → Rules
 pool_rules p = pool p.shelf p.goods.size

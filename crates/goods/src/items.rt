@@ -5,10 +5,14 @@ ghost use Rattle.goods.specs.NamedGoods.{names};
 
 use crate::MOST_GOODS;
 use crate::kind::Goods;
+use crate::noting::NotingGoods;
 use crate::stock::Stock;
 use claims::{Cause, Claim, Claims, Demand, ItemNumber};
 use shelf::gives_one_number;
 use std::alloc::{AllocError, Global};
+
+#[cfg(test)]
+mod tests;
 
 /// Goods with numbers from 1 up, of which a demand names one.
 #[derive(Drop)]
@@ -50,7 +54,7 @@ fn is_promised(claims: &Claims, item: u32) -> bool
         .any(|claim| claim.demand.first == item)
 }
 
-impl Goods for Items {
+impl NotingGoods for Items {
     ghost use Rattle.std.specs.Prelude.{true};
     ghost use Rattle.goods.specs.Items.{named-goods};
 
@@ -62,19 +66,19 @@ impl Goods for Items {
     ghost alike = { λ _ _ _ _ noted. noted };
 
     // as for a quantity but for the most: the common text, with that as its argument, is `gives_one_number`
-    fn is_formed(&self, demand: Demand) -> bool {
+    fn is_well_formed(&self, demand: Demand) -> bool {
         gives_one_number(demand, MOST_GOODS)
     }
 
-    fn amount(&self, _demand: Demand) -> usize {
+    fn units_counted(&self, _demand: Demand) -> usize {
         EACH
     }
 
-    fn unit(&self, demand: Demand) -> ItemNumber {
+    fn unit_given(&self, demand: Demand) -> ItemNumber {
         ItemNumber(demand.first)
     }
 
-    fn suffice_with(&self, claims: &Claims, claim: Claim) -> bool {
+    fn suffice_as_noted(&self, claims: &Claims, claim: Claim) -> bool {
         let item = claim.demand.first;
         !is_promised(claims, item) && item <= self.count
     }
@@ -83,7 +87,34 @@ impl Goods for Items {
 
     fn forget(&mut self, _claim: Claim) {}
 
-    fn shortage(&self) -> Cause {
+    fn why_short(&self) -> Cause {
         Cause::ItemTaken
+    }
+}
+
+// They keep nothing of the claims, so that they answer alike with no notes.
+impl Goods for Items {
+    ghost use Rattle.goods.specs.Items.{named-goods};
+
+    ghost goods = { λ i. named-goods i.count i.sized };
+
+    fn is_formed(&self, demand: Demand) -> bool {
+        self.is_well_formed(demand)
+    }
+
+    fn amount(&self, demand: Demand) -> usize {
+        self.units_counted(demand)
+    }
+
+    fn unit(&self, demand: Demand) -> ItemNumber {
+        self.unit_given(demand)
+    }
+
+    fn suffice_with(&self, claims: &Claims, claim: Claim) -> bool {
+        self.suffice_as_noted(claims, claim)
+    }
+
+    fn shortage(&self) -> Cause {
+        self.why_short()
     }
 }

@@ -3,11 +3,13 @@
 
 pub use items::{Items, Named};
 pub use kind::Goods;
+pub use noting::NotingGoods;
 pub use quantity::{Pool, Quantity};
 pub use stock::Stock;
 
 mod items;
 mod kind;
+mod noting;
 mod quantity;
 mod stock;
 

@@ -1,11 +1,17 @@
-ghost use Rattle.std.specs.Prelude.{◌≤◌};
+ghost use Rattle.std.specs.Prelude.{◌≡◌, ◌≤◌, ◌<◌, ◌^◌};
+ghost use Rattle.claims.specs.Held.{claims_book};
 ghost use Rattle.claims.specs.Limits.{most_units};
+ghost use Rattle.goods.specs.Pooled.{quantities};
 
 use crate::kind::Goods;
+use crate::noting::NotingGoods;
 use crate::stock::Stock;
 use claims::{Cause, Claim, Claims, Demand, ItemNumber, MOST_UNITS};
 use shelf::gives_one_number;
 use std::alloc::{AllocError, Global};
+
+#[cfg(test)]
+pub(crate) mod tests;
 
 // The one unit number that like units have.
 const UNNUMBERED: u32 = 0;
@@ -39,7 +45,7 @@ impl Pool {
     }
 }
 
-impl Goods for Quantity {
+impl NotingGoods for Quantity {
     ghost use Rattle.goods.specs.Pools.{pool-goods, used_for, used-alike};
 
     ghost goods = { λ u. pool-goods u.size };
@@ -49,20 +55,20 @@ impl Goods for Quantity {
     ghost alike = { λ u k n b. used-alike u.used k n b };
 
     // as for items but for the most: the common text, with that as its argument, is `gives_one_number`
-    fn is_formed(&self, demand: Demand) -> bool {
+    fn is_well_formed(&self, demand: Demand) -> bool {
         gives_one_number(demand, MOST_UNITS)
     }
 
-    fn amount(&self, demand: Demand) -> usize {
+    fn units_counted(&self, demand: Demand) -> usize {
         // there is no From for u32 into usize
         demand.first as usize
     }
 
-    fn unit(&self, _demand: Demand) -> ItemNumber {
+    fn unit_given(&self, _demand: Demand) -> ItemNumber {
         ItemNumber(UNNUMBERED)
     }
 
-    fn suffice_with(&self, _claims: &Claims, claim: Claim) -> bool {
+    fn suffice_as_noted(&self, _claims: &Claims, claim: Claim) -> bool {
         self.used.saturating_add(claim.demand.first) <= self.size
     }
 
@@ -74,7 +80,46 @@ impl Goods for Quantity {
         self.used = self.used.saturating_sub(claim.demand.first);
     }
 
-    fn shortage(&self) -> Cause {
+    fn why_short(&self) -> Cause {
         Cause::PoolShort
+    }
+}
+
+// The quantities of all claims, waiting and out, for who asks with no notes. There are few claims, and each quantity is
+// small, so that the sum has room for one more.
+fn promised(claims: &Claims) -> u64
+    ensures value { result ≡ quantities (claims_book claims.now) }
+    ensures small { result < 2 ^ 40 }
+{
+    claims
+        .as_slice()
+        .iter()
+        .map(|claim| u64::from(claim.demand.first))
+        .sum()
+}
+
+impl Goods for Quantity {
+    ghost use Rattle.goods.specs.Pools.{pool-goods};
+
+    ghost goods = { λ u. pool-goods u.size };
+
+    fn is_formed(&self, demand: Demand) -> bool {
+        self.is_well_formed(demand)
+    }
+
+    fn amount(&self, demand: Demand) -> usize {
+        self.units_counted(demand)
+    }
+
+    fn unit(&self, demand: Demand) -> ItemNumber {
+        self.unit_given(demand)
+    }
+
+    fn suffice_with(&self, claims: &Claims, claim: Claim) -> bool {
+        promised(claims) + u64::from(claim.demand.first) <= u64::from(self.size)
+    }
+
+    fn shortage(&self) -> Cause {
+        self.why_short()
     }
 }

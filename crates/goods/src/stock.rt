@@ -4,7 +4,7 @@ ghost use Rattle.claims.specs.Held.{claims_book};
 ghost use Rattle.claims.specs.Rules.{readable};
 ghost use Rattle.goods.specs.Fixed.{rules_of};
 
-use crate::kind::Goods;
+use crate::noting::NotingGoods;
 use claims::{Claim, ClaimKey, Claims, Counting, Demand, Fault, ItemNumber, Party};
 use resource::Resource;
 use shelf::{check_entry, held_under, is_on_shelf, waiting_under};
@@ -12,24 +12,24 @@ use std::alloc::{AllocError, Global};
 
 /// Goods on a shelf, and the claims on them.
 #[derive(Drop)]
-pub struct Stock<G: Goods> {
+pub struct Stock<G: NotingGoods> {
     shelf: u32,
     goods: G,
     claims: Claims,
     ghost carries: { (rules_of shelf (G.goods goods)).carries (claims_book claims) ≡ true },
-    ghost noted: { G.Goods.noted goods (claims_book claims) ≡ true },
+    ghost noted: { G.NotingGoods.noted goods (claims_book claims) ≡ true },
     ghost reads: { every (readable (rules_of shelf (G.goods goods))) (claims_book claims) ≡ true },
 }
 
-impl<G: Goods + Drop> Stock<G> {
+impl<G: NotingGoods + Drop> Stock<G> {
     ghost use Rattle.std.specs.Prelude.{IfOk, []};
     ghost use Rattle.goods.specs.Views.{stock_rules};
     ghost use Rattle.shelf.specs.Shelves.{Opened};
 
     // The goods on a shelf, with no claims.
     pub(crate) fn with_goods(heap: Global, shelf: u32, goods: G) -> Result<Stock<G>, AllocError>
-        requires { G.Goods.noted goods [] ≡ true }
-        ensures { IfOk result (λ s. Opened (rules_of shelf (G.goods goods)) (stock_rules G.Goods s) (claims_book s.claims)) }
+        requires { G.NotingGoods.noted goods [] ≡ true }
+        ensures { IfOk result (λ s. Opened (rules_of shelf (G.goods goods)) (stock_rules G.NotingGoods s) (claims_book s.claims)) }
     {
         let claims = Claims::new(heap)?;
         Ok(Stock {
@@ -40,7 +40,7 @@ impl<G: Goods + Drop> Stock<G> {
     }
 }
 
-impl<G: Goods> Stock<G> {
+impl<G: NotingGoods> Stock<G> {
     ghost use Rattle.claims.specs.Book.{insert};
     ghost use Rattle.claims.specs.Rules.{answered};
     ghost use Rattle.goods.specs.Fixed.{kind_of};
@@ -49,7 +49,7 @@ impl<G: Goods> Stock<G> {
 
     // Turns a claim away before the goods are looked at.
     fn check_claim(&self, claim: Claim) -> Result<(), Fault>
-        ensures { result ≡ answered claim.key (barred ((stock_rules G.Goods self.now).reads claim.demand) (claims_book self.now.claims) claim) }
+        ensures { result ≡ answered claim.key (barred ((stock_rules G.NotingGoods self.now).reads claim.demand) (claims_book self.now.claims) claim) }
     {
         check_entry(&self.claims, claim, self.reads(claim.demand))
     }
@@ -58,19 +58,19 @@ impl<G: Goods> Stock<G> {
     fn is_enough_with(&self, claim: Claim) -> bool
         ensures { result ≡ (kind_of (G.goods self.now.goods)).enough (insert claim (claims_book self.now.claims)) }
     {
-        let unit = self.goods.unit(claim.demand);
-        self.goods.suffice_with(&self.claims, claim) && claim.state.waits_or_has(unit.0)
+        let unit = self.goods.unit_given(claim.demand);
+        self.goods.suffice_as_noted(&self.claims, claim) && claim.state.waits_or_has(unit.0)
     }
 }
 
-impl<G: Goods> Counting for Stock<G> {
+impl<G: NotingGoods> Counting for Stock<G> {
     ghost use Rattle.goods.specs.Views.{stock_rules};
 
-    ghost counts = { λ s. (stock_rules G.Goods s).counts };
+    ghost counts = { λ s. (stock_rules G.NotingGoods s).counts };
 
     fn units_of(&self, demand: Demand) -> usize {
         if self.reads(demand) {
-            self.goods.amount(demand)
+            self.goods.units_counted(demand)
         } else {
             0
         }
@@ -80,12 +80,12 @@ impl<G: Goods> Counting for Stock<G> {
 // `claim`, `count`, `units` and `party_units` are each one call of what all goods share, and a lift has the goods forget
 // the claim. A list of goods has the same five, and no kind stands over both: a list's goods move at each claim, which
 // goods like these do not.
-impl<G: Goods> Resource for Stock<G> {
+impl<G: NotingGoods> Resource for Stock<G> {
     ghost use Rattle.claims.proofs.Ranks.{rises_says};
     ghost use Rattle.goods.specs.Fixed.{fixed_laws};
     ghost use Rattle.goods.specs.Views.{stock_rules};
 
-    ghost rules = { stock_rules G.Goods };
+    ghost rules = { stock_rules G.NotingGoods };
 
     ghost book = { λ s. claims_book s.claims };
 
@@ -95,7 +95,7 @@ impl<G: Goods> Resource for Stock<G> {
         self.check_claim(claim)?;
         if !self.is_enough_with(claim) {
             return Err(Fault {
-                cause: self.goods.shortage(),
+                cause: self.goods.why_short(),
                 key: claim.key,
             });
         }
@@ -107,7 +107,7 @@ impl<G: Goods> Resource for Stock<G> {
 
     fn draw(&mut self, key: ClaimKey) -> Result<ItemNumber, Fault> {
         let claim = waiting_under(&self.claims, key)?;
-        let unit = self.goods.unit(claim.demand);
+        let unit = self.goods.unit_given(claim.demand);
         self.claims.send_out(key, unit);
         Ok(unit)
     }
@@ -128,7 +128,7 @@ impl<G: Goods> Resource for Stock<G> {
     }
 
     fn reads(&self, demand: Demand) -> bool {
-        is_on_shelf(demand, self.shelf) && self.goods.is_formed(demand)
+        is_on_shelf(demand, self.shelf) && self.goods.is_well_formed(demand)
     }
 
     // `Counting` promises the same; it is of a lower crate, which knows no resource.

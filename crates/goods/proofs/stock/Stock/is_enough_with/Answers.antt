@@ -4,7 +4,7 @@ use Rattle.claims.specs.Held.{claims_book}
 use Rattle.goods.specs.Fixed.{enough_with}
 use Rattle.goods.proofs.stock.Stock.is_enough_with.Goals as goal
 
-pub returns-then-suffice_with : goal.returns-then-suffice_with
-returns-then-suffice_with g c =
+pub returns-then-suffice_as_noted : goal.returns-then-suffice_as_noted
+returns-then-suffice_as_noted g c =
     let s = c.args.self.now in
-    grind (arith, enough_with s.shelf (g.G.Goods.goods s.goods) c.args.claim (claims_book s.claims) _ _ _ s.carries (c.suffice_with.ensures s.noted) c.unit-unit.ensures c.waits_or_has.ensures)
+    grind (arith, enough_with s.shelf (g.G.NotingGoods.goods s.goods) c.args.claim (claims_book s.claims) _ _ _ s.carries (c.suffice_as_noted.ensures s.noted) c.unit_given-unit.ensures c.waits_or_has.ensures)

@@ -6,10 +6,10 @@ use Rattle.goods.proofs.stock.StockResource.draw.Given.{Over}
 use Rattle.goods.proofs.stock.StockResource.draw.Goals as goal
 use Rattle.goods.proofs.stock.StockResource.draw.Goals.{After-send_out}
 
-gone : (g : Over) (c : After-send_out g) → Gone (rules_of c.args.self.now.shelf (g.G.Goods.goods c.args.self.now.goods)) c.args.key (claims_book c.args.self.now.claims) (claims_book c.send_out.new.self) c.unit-unit.result
+gone : (g : Over) (c : After-send_out g) → Gone (rules_of c.args.self.now.shelf (g.G.NotingGoods.goods c.args.self.now.goods)) c.args.key (claims_book c.args.self.now.claims) (claims_book c.send_out.new.self) c.unit_given-unit.result
 gone g c =
     let s = c.args.self.now in
-    goes-out_as s.shelf (g.G.Goods.goods s.goods) c.args.key (claims_book s.claims) _ c.in_ok-claim.claim c.unit-unit.result s.carries s.reads (sym c.in_ok-claim.ensures) c.unit-unit.ensures c.send_out.ensures
+    goes-out_as s.shelf (g.G.NotingGoods.goods s.goods) c.args.key (claims_book s.claims) _ c.in_ok-claim.claim c.unit_given-unit.result s.carries s.reads (sym c.in_ok-claim.ensures) c.unit_given-unit.ensures c.send_out.ensures
 
 pub invariant_of-self : goal.invariant_of-self
 invariant_of-self g c =
@@ -17,7 +17,7 @@ invariant_of-self g c =
     let w = gone g c in
     record {
       carries = w.carried;
-      noted = ap (g.G.Goods.noted s.goods) c.send_out.ensures ∙ g.met.G.Goods.alike s.goods c.args.key.0 c.unit-unit.result.0 (claims_book s.claims) s.noted;
+      noted = ap (g.G.NotingGoods.noted s.goods) c.send_out.ensures ∙ g.met.G.NotingGoods.alike s.goods c.args.key.0 c.unit_given-unit.result.0 (claims_book s.claims) s.noted;
       reads = w.all_read;
     }
 

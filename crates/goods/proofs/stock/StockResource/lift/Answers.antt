@@ -15,12 +15,12 @@ pub returns-in_err-claim : goal.returns-in_err-claim
 returns-in_err-claim g c =
     let s = c.args.self.now in
     let p = err_from_is_err_and c.from_residual.result c.from_residual.ensures.1 in
-    rw (p.1, p.2) (stays c.args.key (rules_of s.shelf (g.G.Goods.goods s.goods)) (claims_book s.claims) _ (sym c.in_err-claim.ensures))
+    rw (p.1, p.2) (stays c.args.key (rules_of s.shelf (g.G.NotingGoods.goods s.goods)) (claims_book s.claims) _ (sym c.in_err-claim.ensures))
 
-left : (g : Over) (c : After-forget g) → let r = rules_of c.args.self.now.shelf (g.G.Goods.goods c.args.self.now.goods) in (r.carries (claims_book c.remove.new.self) ≡ true) × (every (readable r) (claims_book c.remove.new.self) ≡ true)
+left : (g : Over) (c : After-forget g) → let r = rules_of c.args.self.now.shelf (g.G.NotingGoods.goods c.args.self.now.goods) in (r.carries (claims_book c.remove.new.self) ≡ true) × (every (readable r) (claims_book c.remove.new.self) ≡ true)
 left g c =
     let s = c.args.self.now in
-    let f = g.G.Goods.goods s.goods in
+    let f = g.G.NotingGoods.goods s.goods in
     let b = claims_book s.claims in
     leaves (rules_of s.shelf f) (fixed_laws s.shelf f) b _ _ (rises_says b s.claims.ordered) s.carries s.reads c.remove.ensures.after
 
@@ -32,7 +32,7 @@ invariant_of-self-clause-noted g c =
     let s = c.args.self.now in
     let k = c.args.key in
     let b = claims_book s.claims in
-    ap (g.G.Goods.noted c.forget.new.self) c.remove.ensures.after ∙ c.forget.ensures.kept k.0 b s.noted (lies_there k (find b k.0) c.in_ok-claim.claim (sym c.in_ok-claim.ensures))
+    ap (g.G.NotingGoods.noted c.forget.new.self) c.remove.ensures.after ∙ c.forget.ensures.kept k.0 b s.noted (lies_there k (find b k.0) c.in_ok-claim.claim (sym c.in_ok-claim.ensures))
 
 pub invariant_of-self-clause-reads : goal.invariant_of-self-clause-reads
 invariant_of-self-clause-reads g c =

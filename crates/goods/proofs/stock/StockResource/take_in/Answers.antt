@@ -15,18 +15,18 @@ pub returns-in_err-check_claim : goal.returns-in_err-check_claim
 returns-in_err-check_claim g c =
     let s = c.args.self.now in
     let p = err_from_is_err_and c.from_residual.result c.from_residual.ensures.1 in
-    rw (p.1, p.2) (turned_away s.shelf (kind_of (g.G.Goods.goods s.goods)) (claims_book s.claims) c.args.claim _ refl _ c.in_err-check_claim.ensures)
+    rw (p.1, p.2) (turned_away s.shelf (kind_of (g.G.NotingGoods.goods s.goods)) (claims_book s.claims) c.args.claim _ refl _ c.in_err-check_claim.ensures)
 
 pub returns-then-not-is_enough_with : goal.returns-then-not-is_enough_with
 returns-then-not-is_enough_with g c =
     let s = c.args.self.now in
-    rw c.shortage.ensures (falls_short s.shelf (kind_of (g.G.Goods.goods s.goods)) (claims_book s.claims) c.args.claim _ refl c.in_ok-check_claim.ensures (sym c.if-not-is_enough_with.ensures))
+    rw c.why_short.ensures (falls_short s.shelf (kind_of (g.G.NotingGoods.goods s.goods)) (claims_book s.claims) c.args.claim _ refl c.in_ok-check_claim.ensures (sym c.if-not-is_enough_with.ensures))
 
 -- the claim that came in
-in-book : (g : Over) (c : After-insert g) → Entered c.args.self.now.shelf (kind_of (g.G.Goods.goods c.args.self.now.goods)) (claims_book c.args.self.now.claims) (claims_book c.insert.new.self) c.args.claim
+in-book : (g : Over) (c : After-insert g) → Entered c.args.self.now.shelf (kind_of (g.G.NotingGoods.goods c.args.self.now.goods)) (claims_book c.args.self.now.claims) (claims_book c.insert.new.self) c.args.claim
 in-book g c =
     let s = c.args.self.now in
-    comes_in s.shelf (kind_of (g.G.Goods.goods s.goods)) (claims_book s.claims) c.args.claim _ refl (claims_book c.insert.new.self) s.reads c.in_ok-check_claim.ensures (sym c.if-not-is_enough_with.ensures) c.insert.ensures.after
+    comes_in s.shelf (kind_of (g.G.NotingGoods.goods s.goods)) (claims_book s.claims) c.args.claim _ refl (claims_book c.insert.new.self) s.reads c.in_ok-check_claim.ensures (sym c.if-not-is_enough_with.ensures) c.insert.ensures.after
 
 pub invariant_of-self-clause-carries : goal.invariant_of-self-clause-carries
 invariant_of-self-clause-carries g c = rw c.note.ensures.same (in-book g c).carried
@@ -35,10 +35,10 @@ invariant_of-self-clause-carries g c = rw c.note.ensures.same (in-book g c).carr
 pub invariant_of-self-clause-noted : goal.invariant_of-self-clause-noted
 invariant_of-self-clause-noted g c =
     let s = c.args.self.now in
-    let f = g.G.Goods.goods s.goods in
+    let f = g.G.NotingGoods.goods s.goods in
     let b = insert c.args.claim (claims_book s.claims) in
     let enough = and_parts (f.suffice b) (every (proper f) b) (sym c.if-not-is_enough_with.ensures) in
-    ap (g.G.Goods.noted c.note.new.self) (in-book g c).inserted ∙ c.note.ensures.kept (claims_book s.claims) s.noted enough.0
+    ap (g.G.NotingGoods.noted c.note.new.self) (in-book g c).inserted ∙ c.note.ensures.kept (claims_book s.claims) s.noted enough.0
 
 pub invariant_of-self-clause-reads : goal.invariant_of-self-clause-reads
 invariant_of-self-clause-reads g c = subst (λ (f : Fixed). every (readable (rules_of c.args.self.now.shelf f)) (claims_book c.insert.new.self) ≡ true) (sym c.note.ensures.same) (in-book g c).all_read

@@ -4,7 +4,7 @@ use Rattle.std.proofs.lemmas.Bool.{eqb-true, leb-true}
 use Rattle.goods.specs.Pooled.{quantities}
 use Rattle.goods.specs.Pools.{quantities-insert, used-insert}
 use Rattle.claims.specs.Book.{insert}
-use Rattle.goods.proofs.quantity.QuantityGoods.note.Goals as goal
+use Rattle.goods.proofs.quantity.QuantityNotingGoods.note.Goals as goal
 
 pub returns-clause-kept : goal.returns-clause-kept
 returns-clause-kept c b used fits =

@@ -3,7 +3,7 @@ use Rattle.std.proofs.Common.{arith}
 use Rattle.std.proofs.lemmas.Bool.{eqb-true}
 use Rattle.goods.specs.Pooled.{quantities}
 use Rattle.goods.specs.Pools.{quantities_lift, used-lift}
-use Rattle.goods.proofs.quantity.QuantityGoods.forget.Goals as goal
+use Rattle.goods.proofs.quantity.QuantityNotingGoods.forget.Goals as goal
 
 pub returns-clause-kept : goal.returns-clause-kept
 returns-clause-kept c k b used found =
