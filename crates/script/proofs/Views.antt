@@ -6,6 +6,7 @@ use Rattle.resource.specs.declared.Resource.{Ghosts}
 use Rattle.machine.specs.declared.Refusal.{Refusal}
 use Rattle.machine.specs.Machine.{State, Answer as MachineAnswer, step}
 use Rattle.machine.specs.Entries.{Consistent}
+use Rattle.machine.proofs.Keeping.{step_keeps}
 use Rattle.broker.specs.declared.call.Answer.{Answer}
 use Rattle.broker.specs.declared.call.Call.{Call}
 use Rattle.broker.specs.declared.desk.Broker.{Broker}
@@ -53,6 +54,13 @@ module _ {S U : Type 0} (Deals : S → Call → List ℕ → S → Type 0) (Deal
     short = λ l. let (first, rest, words, cut, told) = h.short l in (first, rest, words, cut, (rows-view 1 s t first _ ok told).1);
   }
 
+-- a script that the machine answers keeps its state consistent
+pub answers_consistent : (rules : Rules) {T E : Type 0} (r : Result T E) (s t : State) (script rows : List ℕ) → Settled (by_machine rules) r s script rows t → Consistent s → Consistent t
+answers_consistent rules r s t script rows told ok =
+    holds-after (by_machine rules) (by_machine rules) (λ x. x) Consistent
+    (λ x c w y k one. (subst Consistent (sym (ap (λ (u : State × MachineAnswer). u.0) one.1)) (step_keeps rules x (call_of c) k), one))
+    r s t script rows ok told
+
 module _ {X : Type 0} (m : Ghosts X) where
   -- the words for a reply are those for the machine's answer
   said-replied : (n : ℕ) (reply : Result Answer Refusal) → said (replied n reply) ≡ worded (answer_of reply)
@@ -75,12 +83,13 @@ module _ {X : Type 0} (m : Ghosts X) where
 
   pub runs : {T E : Type 0} (r : Result T E) (b b' : Broker X m) (script old new rows : List ℕ) → new ≡ old ++ rows → Settled (by_broker m) r b script rows b' → Runs m b script old r new b'
   runs r b b' script old new rows added told =
-      let rules = m.rules b.resource in record {
+      let rules = m.rules b.resource in
+      let by_rules = settled_view (by_broker m) (by_machine rules) (view m) (Over rules) (each_call rules) r b b' script rows refl told in record {
         rows = rows;
         added = added;
         told = told;
-        machine = settled_view (by_broker m) (by_machine rules) (view m) (Over rules) (each_call rules) r b b' script rows refl told;
-        kept = λ ok. holds-after (by_broker m) (by_broker m) (λ d. d) (λ d. Consistent (view m d)) (λ d call words d' k dealt. (dealt.1.kept k, dealt)) r b b' script rows ok told;
+        machine = by_rules;
+        kept = answers_consistent rules r (view m b) (view m b') script rows by_rules;
         same = holds-after (by_broker m) (by_machine rules) (view m) (Over rules) (each_call rules) r b b' script rows refl told;
       }
 
