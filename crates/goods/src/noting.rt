@@ -5,8 +5,8 @@ ghost use Rattle.goods.specs.Fixed.{Fixed};
 
 use claims::{Cause, Claim, Claims, Demand, ItemNumber};
 
-/// Goods of which a demand says which unit goes out, and which note the claims on them, as those of a `Stock` do: whether
-/// they suffice, they say of the claims that they have noted. `Goods` are asked the same of any claims.
+/// Goods of which a demand says which unit goes out, and which may note the claims that come in and leave, as a pool keeps
+/// their sum. The goods of a `Stock` are such.
 pub trait NotingGoods {
     /// What they read and count, whether there are enough of them, and the laws that they keep.
     ghost goods: { Self → Fixed };

@@ -85,8 +85,8 @@ impl NotingGoods for Quantity {
     }
 }
 
-// The quantities of all claims, waiting and out, for who asks with no notes. There are few claims, and each quantity is
-// small, so that the sum has room for one more.
+// The quantities of all claims, waiting and out, for a caller that has no notes. There are few claims, and each quantity
+// is small, so that the sum has room for one more.
 fn promised(claims: &Claims) -> u64
     ensures value { result ≡ quantities (claims_book claims.now) }
     ensures small { result < 2 ^ 40 }
